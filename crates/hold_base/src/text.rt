@@ -13,3 +13,27 @@ pub fn put_number(out: &mut Vec<u8>, n: i64) -> Result<(), Memory>
     out.extend_from_slice(buffer.format(n).as_bytes())?;
     Ok(())
 }
+
+#[cfg(test)]
+mod tests {
+    use super::*;
+    use crate::name::Name;
+    use std::test::Fail;
+
+    #[test]
+    fn numbers_are_appended(rt: HostRuntime) -> Result<(), Fail> {
+        let mut out = Vec::new(rt.alloc());
+        put_number(&mut out, i64::MIN)?;
+        put_number(&mut out, 0)?;
+        put_number(&mut out, 42)?;
+        assert_eq!(rt; out.as_slice(), b"-9223372036854775808042".as_slice());
+        Ok(())
+    }
+
+    #[test]
+    fn names_keep_their_bytes(rt: HostRuntime) -> Result<(), Fail> {
+        let name = Name::from_bytes(rt.alloc(), b"u[3]")?;
+        assert_eq!(rt; name.bytes(), b"u[3]".as_slice());
+        Ok(())
+    }
+}
