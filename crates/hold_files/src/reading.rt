@@ -56,7 +56,7 @@ pub fn read_whole<F: Files>(
         → Rose ((F.told files.old).read_faults name.now) ((F.told files.new).read_faults name.now) }
     ensures stays { OnlyReads (F.told files.old) (F.told files.new) }
 {
-    let mut piece = vec![in alloc; 0u8; PIECE]?;
+    let mut piece = zeros(alloc, PIECE)?;
     let mut text = Vec::new(alloc);
     loop {
         let place = text.len() as u64;
@@ -69,4 +69,11 @@ pub fn read_whole<F: Files>(
         }
         text.extend_from_slice(&piece[..count])?;
     }
+}
+
+/// That many bytes, all 0.
+fn zeros(alloc: Global, count: usize) -> Result<Vec<u8>, AllocError>
+    ensures { IfOk result (λ bytes. vec_len bytes ≡ count) }
+{
+    vec![in alloc; 0u8; count]
 }
