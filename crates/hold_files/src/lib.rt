@@ -3,6 +3,7 @@
 #![tactic(auto)]
 
 mod files;
+mod memory;
 mod reading;
 mod writing;
 
