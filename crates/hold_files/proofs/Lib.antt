@@ -1,3 +1,4 @@
 pub mod ToldLemmas
 pub mod Pieces
 pub mod Progress
+pub mod EntryLemmas

@@ -1,3 +1,4 @@
 pub mod Told
 pub mod Whole
 pub mod Shelf
+pub mod Memory

@@ -8,5 +8,6 @@ mod reading;
 mod writing;
 
 pub use files::{Failed, Files};
+pub use memory::{Fails, MemoryFiles};
 pub use reading::{ReadError, read_whole};
 pub use writing::{say_whole, write_whole};

@@ -1,2 +1,146 @@
+ghost use Rattle.std.specs.Prelude.{◌≡◌, ◌↔◌, ℕ, List, [], ◌++◌, ◌<◌, ◌≤◌, length, take, drop, Contains, IsTrue, IsSome, IsErr, IfOk, OnOk, OnErr};
+ghost use Rattle.hold_files.specs.Told.{Told, Rose, Keeps, KeepsOrEmpties, KeepsSaid, OnlyReads, OnlyWrites, OnlySays};
+
 mod buffer;
 mod entry;
+
+use self::buffer::Buffer;
+use self::entry::Entry;
+use crate::files::{Failed, Files};
+use hold_base::{List, Name};
+use std::collections::BTreeMap;
+
+/// For each sort of call, the numbers from 0 of the calls that fail.
+#[derive(Clone, Debug, Drop, PartialEq, Eq)]
+pub struct Fails {
+    pub reads: List<u64>,
+    pub starts: List<u64>,
+    pub puts: List<u64>,
+    pub says: List<u64>,
+}
+
+/// How many calls of each sort there were.
+#[derive(Clone, Copy, Debug)]
+struct Calls {
+    reads: u64,
+    starts: u64,
+    puts: u64,
+    says: u64,
+}
+
+/// Files in memory, which fail where they are told to. Their room is reserved from the start.
+#[derive(Drop)]
+pub struct MemoryFiles {
+    entries: BTreeMap<Name, Entry>,
+    said: Buffer,
+    fails: Fails,
+    calls: Calls,
+    /// Faults of all names that have no entry.
+    other_read_faults: u64,
+    other_write_faults: u64,
+    say_faults: u64,
+}
+
+impl MemoryFiles {
+    ghost use Rattle.hold_files.specs.Memory.{told_of};
+
+    /// Lends the bytes said.
+    pub fn said(&self) -> &[u8]
+        ensures { (told_of self.now).said ≡ Some result.now }
+    {
+        self.said.text()
+    }
+}
+
+impl Files for MemoryFiles {
+    ghost use Rattle.hold_files.specs.Memory.{told_of, ReadFails, StartFails, PutFails, SayFails};
+    ghost use Rattle.hold_files.specs.Shelf.{bytes_at, growth};
+
+    ghost told = { told_of };
+
+    fn read_at(&mut self, name: &Name, at: u64, into: &mut [u8]) -> Result<usize, Failed>
+        ensures count { IfOk result (λ n. n ≤ length into.old) }
+        ensures copied { IfOk result (λ n. (text : List ℕ) → (told_of self.old).content name.now ≡ Some text
+            → take n into.new ≡ take n (drop at text)) }
+        ensures end { IfOk result (λ n. (text : List ℕ) → (told_of self.old).content name.now ≡ Some text
+            → n ≡ 0 → 0 < length into.old → length text ≤ at) }
+        ensures failed { OnErr result (Rose ((told_of self.old).read_faults name.now) ((told_of self.new).read_faults name.now)) }
+        ensures stays { OnlyReads (told_of self.old) (told_of self.new) }
+
+        ensures cause { IsErr result ↔ ReadFails self.old name.now }
+    {
+        let is_refused = is_listed(&self.fails.reads, self.calls.reads);
+        self.calls.reads = self.calls.reads.saturating_add(1);
+        let Some(entry) = self.entries.get_mut(name) else {
+            self.other_read_faults = self.other_read_faults.saturating_add(1);
+            return Err(Failed);
+        };
+        entry.read_at(is_refused, at, into)
+    }
+
+    fn start(&mut self, name: &Name) -> Result<(), Failed>
+        ensures emptied { OnOk result (IsSome ((told_of self.old).content name.now) → (told_of self.new).content name.now ≡ Some []) }
+        ensures failed { OnErr result (Rose ((told_of self.old).write_faults name.now) ((told_of self.new).write_faults name.now)) }
+        ensures left { OnErr result (KeepsOrEmpties (told_of self.old) (told_of self.new) name.now) }
+        ensures stays { OnlyWrites (told_of self.old) (told_of self.new) name.now }
+
+        ensures cause { IsErr result ↔ StartFails self.old name.now }
+    {
+        let is_refused = is_listed(&self.fails.starts, self.calls.starts);
+        self.calls.starts = self.calls.starts.saturating_add(1);
+        let Some(entry) = self.entries.get_mut(name) else {
+            self.other_write_faults = self.other_write_faults.saturating_add(1);
+            return Err(Failed);
+        };
+        entry.start(is_refused)
+    }
+
+    fn put(&mut self, name: &Name, piece: &[u8]) -> Result<usize, Failed>
+        ensures count { IfOk result (λ n. n ≤ length piece.now) }
+        ensures some { IfOk result (λ n. 0 < length piece.now → 0 < n) }
+        ensures appended { IfOk result (λ n. (text : List ℕ) → (told_of self.old).content name.now ≡ Some text
+            → (told_of self.new).content name.now ≡ Some (text ++ take n piece.now)) }
+        ensures failed { OnErr result (Rose ((told_of self.old).write_faults name.now) ((told_of self.new).write_faults name.now)) }
+        ensures left { OnErr result (Keeps (told_of self.old) (told_of self.new) name.now) }
+        ensures stays { OnlyWrites (told_of self.old) (told_of self.new) name.now }
+
+        ensures cause { IsErr result ↔ PutFails self.old name.now piece.now }
+    {
+        let is_refused = is_listed(&self.fails.puts, self.calls.puts);
+        self.calls.puts = self.calls.puts.saturating_add(1);
+        let Some(entry) = self.entries.get_mut(name) else {
+            self.other_write_faults = self.other_write_faults.saturating_add(1);
+            return Err(Failed);
+        };
+        entry.put(is_refused, piece)
+    }
+
+    fn say(&mut self, piece: &[u8]) -> Result<usize, Failed>
+        ensures count { IfOk result (λ n. n ≤ length piece.now) }
+        ensures some { IfOk result (λ n. 0 < length piece.now → 0 < n) }
+        ensures appended { IfOk result (λ n. (said : List ℕ) → (told_of self.old).said ≡ Some said
+            → (told_of self.new).said ≡ Some (said ++ take n piece.now)) }
+        ensures failed { OnErr result (Rose (told_of self.old).say_faults (told_of self.new).say_faults) }
+        ensures left { OnErr result (KeepsSaid (told_of self.old) (told_of self.new)) }
+        ensures stays { OnlySays (told_of self.old) (told_of self.new) }
+
+        ensures cause { IsErr result ↔ SayFails self.old piece.now }
+    {
+        let is_refused = is_listed(&self.fails.says, self.calls.says);
+        self.calls.says = self.calls.says.saturating_add(1);
+        if !is_refused {
+            if let Ok(count) = self.said.append(piece) {
+                return Ok(count);
+            }
+        }
+        self.say_faults = self.say_faults.saturating_add(1);
+        Err(Failed)
+    }
+}
+
+/// Whether a number is in the list.
+fn is_listed(numbers: &List<u64>, number: u64) -> bool
+    ensures { IsTrue result ↔ Contains numbers.now number }
+{
+    numbers.as_slice().contains(&number)
+}

@@ -1,4 +1,4 @@
-ghost use Rattle.std.specs.Prelude.{◌≡◌, ◌↔◌, ◌⊎◌, ◌++◌, [], ℕ, List, length, take, drop, IsTrue, IsErr, IfOk, OnOk, OnErr};
+ghost use Rattle.std.specs.Prelude.{◌≡◌, ◌≤◌, ◌↔◌, ◌⊎◌, ◌++◌, [], ℕ, List, length, take, drop, IsTrue, IsErr, IfOk, OnOk, OnErr};
 ghost use Rattle.hold_files.specs.Shelf.{Reserved, IsFull, growth, risen, bytes_at};
 
 use super::buffer::Buffer;
@@ -21,6 +21,9 @@ impl Entry {
         ensures copied { IfOk result (λ n. take n into.new ≡ take n (drop at self.old.buffer.text)) }
         ensures ok { OnOk result (self.new ≡ self.old) }
         ensures err { OnErr result (self.new ≡ record self.old { read_faults = risen self.old.read_faults }) }
+        ensures text { self.new.buffer.text ≡ self.old.buffer.text }
+        ensures reads { self.old.read_faults ≤ self.new.read_faults }
+        ensures writes { self.new.write_faults ≡ self.old.write_faults }
     {
         if is_refused {
             self.read_faults = self.read_faults.saturating_add(1);
@@ -34,6 +37,8 @@ impl Entry {
         ensures failed { IsErr result ↔ (IsTrue is_refused ⊎ (¬ IsTrue self.old.is_output)) }
         ensures ok { OnOk result (self.new ≡ record self.old { buffer = record { text = []; room = self.old.buffer.room } }) }
         ensures err { OnErr result (self.new ≡ record self.old { write_faults = risen self.old.write_faults }) }
+        ensures reads { self.new.read_faults ≡ self.old.read_faults }
+        ensures writes { self.old.write_faults ≤ self.new.write_faults }
     {
         if is_refused || !self.is_output {
             self.write_faults = self.write_faults.saturating_add(1);
@@ -50,6 +55,8 @@ impl Entry {
         ensures count { IfOk result (λ n. n ≡ growth self.old.buffer piece.now) }
         ensures ok { IfOk result (λ n. self.new ≡ record self.old { buffer = record { text = self.old.buffer.text ++ take n piece.now; room = self.old.buffer.room } }) }
         ensures err { OnErr result (self.new ≡ record self.old { write_faults = risen self.old.write_faults }) }
+        ensures reads { self.new.read_faults ≡ self.old.read_faults }
+        ensures writes { self.old.write_faults ≤ self.new.write_faults }
     {
         if !is_refused && self.is_output {
             if let Ok(count) = self.buffer.append(piece) {
