@@ -2,3 +2,4 @@ pub mod ToldLemmas
 pub mod Pieces
 pub mod Progress
 pub mod EntryLemmas
+pub mod Additions

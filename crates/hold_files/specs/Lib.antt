@@ -2,3 +2,4 @@ pub mod Told
 pub mod Whole
 pub mod Shelf
 pub mod Memory
+pub mod Entries

@@ -3,6 +3,8 @@
 --   have no entry, and the count of sayings.
 -- told_of: what MemoryFiles tells. A name without an entry tells no content.
 -- IsOutput m name: there is a file of that name, and it may be written.
+-- IsRoomOf m room: every output, and what is said, may grow to that many bytes.
+-- HasNoFault told: all counts of faults are 0. IsFresh m listed: no call was made yet, and the listed ones are to fail.
 -- ReadFails, StartFails, PutFails, SayFails: when the next call fails: its number is listed, there is no
 --   such file (or it is no output), or the room is used up.
 use Rattle.std.specs.Prelude.{◌≡◌, ◌⊎◌, ℕ, List, Option, Some, None, IsTrue, IsSomeAnd, Contains, unwrap_or, option_map}
@@ -10,6 +12,7 @@ use Rattle.std.specs.Ordering.{nat_cmp}
 use Rattle.std.specs.Cmp.Lexicographic.{slice_cmp}
 use Rattle.std.specs.BTreeMap.{BTreeMap, get}
 use Rattle.hold_files.specs.declared.memory.MemoryFiles.{MemoryFiles}
+use Rattle.hold_files.specs.declared.memory.Fails.{Fails}
 use Rattle.hold_files.specs.declared.memory.entry.Entry.{Entry}
 use Rattle.hold_files.specs.Told.{Told}
 use Rattle.hold_files.specs.Shelf.{IsFull}
@@ -39,6 +42,25 @@ told_of m = told_in m.entries m.said.text m.other_read_faults m.other_write_faul
 -- there is such a file, and it may be written
 abbrev pub IsOutput : MemoryFiles → List ℕ → Type 0
 IsOutput m name = IsSomeAnd (entry_of m.entries name) (λ e. IsTrue e.is_output)
+
+-- each output and what is said may grow to that size
+pub record IsRoomOf (m : MemoryFiles) (room : ℕ) : Type 0 where
+  pub outputs : (q : List ℕ) → IsOutput m q → IsSomeAnd (entry_of m.entries q) (λ e. e.buffer.room ≡ room)
+  pub said : m.said.room ≡ room
+
+-- no count of faults has risen yet
+pub record HasNoFault (told : Told) : Type 0 where
+  pub reads : (q : List ℕ) → told.read_faults q ≡ 0
+  pub writes : (q : List ℕ) → told.write_faults q ≡ 0
+  pub says : told.say_faults ≡ 0
+
+-- no call was made yet, and these are the ones that fail
+pub record IsFresh (m : MemoryFiles) (listed : Fails) : Type 0 where
+  pub fails : m.fails ≡ listed
+  pub reads : m.calls.reads ≡ 0
+  pub starts : m.calls.starts ≡ 0
+  pub puts : m.calls.puts ≡ 0
+  pub says : m.calls.says ≡ 0
 
 -- the next read fails
 abbrev pub ReadFails : MemoryFiles → List ℕ → Type 0

@@ -2,12 +2,15 @@ ghost use Rattle.std.specs.Prelude.{◌≡◌, ◌↔◌, ℕ, List, [], ◌++�
 ghost use Rattle.hold_files.specs.Told.{Told, Rose, Keeps, KeepsOrEmpties, KeepsSaid, OnlyReads, OnlyWrites, OnlySays};
 
 mod buffer;
+mod entries;
 mod entry;
 
 use self::buffer::Buffer;
+use self::entries::{add_outputs, entries_of};
 use self::entry::Entry;
 use crate::files::{Failed, Files};
-use hold_base::{List, Name};
+use hold_base::{List, Memory, Name};
+use std::alloc::Global;
 use std::collections::BTreeMap;
 
 /// For each sort of call, the numbers from 0 of the calls that fail.
@@ -42,7 +45,43 @@ pub struct MemoryFiles {
 }
 
 impl MemoryFiles {
-    ghost use Rattle.hold_files.specs.Memory.{told_of};
+    ghost use Rattle.hold_files.specs.Memory.{told_of, IsOutput, IsRoomOf, IsFresh, HasNoFault};
+    ghost use Rattle.hold_files.specs.Entries.{first_content, is_listed_name};
+
+    /// Files with these texts. Of several texts of one name the first counts. An output begins with its
+    /// text, or empty. Takes `room` bytes for each output and for what is said, so that no later call takes
+    /// memory.
+    pub fn new(
+        alloc: Global,
+        texts: Vec<(Name, Vec<u8>)>,
+        outputs: Vec<Name>,
+        room: usize,
+        fails: Fails,
+    ) -> Result<MemoryFiles, Memory>
+        ensures contents { IfOk result (λ m. (q : List ℕ) → (told_of m).content q ≡ first_content q texts.items outputs.items) }
+        ensures said { IfOk result (λ m. (told_of m).said ≡ Some []) }
+        ensures faults { IfOk result (λ m. HasNoFault (told_of m)) }
+        ensures outputs { IfOk result (λ m. (q : List ℕ) → IsOutput m q ↔ IsTrue (is_listed_name q outputs.items)) }
+        ensures room { IfOk result (λ m. IsRoomOf m room) }
+        ensures fresh { IfOk result (λ m. IsFresh m fails) }
+    {
+        let mut entries = entries_of(alloc, texts)?;
+        add_outputs(alloc, &mut entries, outputs, room)?;
+        Ok(MemoryFiles {
+            entries,
+            said: Buffer::new(Vec::new(alloc), room)?,
+            fails,
+            calls: Calls {
+                reads: 0,
+                starts: 0,
+                puts: 0,
+                says: 0,
+            },
+            other_read_faults: 0,
+            other_write_faults: 0,
+            say_faults: 0,
+        })
+    }
 
     /// Lends the bytes said.
     pub fn said(&self) -> &[u8]

@@ -32,6 +32,14 @@ impl Buffer {
         Ok(Buffer { bytes, room })
     }
 
+    /// Gives the text back.
+    pub fn into_bytes(self) -> Vec<u8>
+        ensures { result.items ≡ self.text }
+    {
+        let Buffer { bytes, .. } = self;
+        bytes
+    }
+
     /// Lends the text.
     pub fn text(&self) -> &[u8]
         ensures { result.now ≡ self.now.text }

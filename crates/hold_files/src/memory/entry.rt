@@ -3,6 +3,7 @@ ghost use Rattle.hold_files.specs.Shelf.{Reserved, IsFull, growth, risen, bytes_
 
 use super::buffer::Buffer;
 use crate::files::Failed;
+use std::alloc::AllocError;
 
 /// A file in memory, with the counts of its faults.
 #[derive(Debug, Drop)]
@@ -14,6 +15,20 @@ pub struct Entry {
 }
 
 impl Entry {
+    ghost use Rattle.hold_files.specs.Entries.{new_entry};
+
+    /// A file with this text and no fault.
+    pub fn new(bytes: Vec<u8>, room: usize, is_output: bool) -> Result<Entry, AllocError>
+        ensures { IfOk result (λ e. e ≡ new_entry bytes.items room is_output) }
+    {
+        Ok(Entry {
+            buffer: Buffer::new(bytes, room)?,
+            is_output,
+            read_faults: 0,
+            write_faults: 0,
+        })
+    }
+
     /// Reads, or counts a fault where the call is to fail.
     pub fn read_at(&mut self, is_refused: bool, at: u64, into: &mut [u8]) -> Result<usize, Failed>
         ensures failed { IsErr result ↔ IsTrue is_refused }
