@@ -3,3 +3,4 @@ pub mod Whole
 pub mod Shelf
 pub mod Memory
 pub mod Entries
+pub mod Host

@@ -3,11 +3,13 @@
 #![tactic(auto)]
 
 mod files;
+mod host;
 mod memory;
 mod reading;
 mod writing;
 
 pub use files::{Failed, Files};
+pub use host::HostFiles;
 pub use memory::{Fails, MemoryFiles};
 pub use reading::{ReadError, read_whole};
 pub use writing::{say_whole, write_whole};
