@@ -9,7 +9,9 @@ use Rattle.std.proofs.lemmas.Slice.Eq.{bytes_eq-Decides}
 use Rattle.std.proofs.lemmas.Map.Text.{is_eq-slice_cmp}
 use Rattle.hold_files.specs.declared.memory.entry.Entry.{Entry}
 use Rattle.hold_files.specs.Told.{OnlyReads, OnlyWrites}
-use Rattle.hold_files.specs.Memory.{Entries, entry_of, told_in}
+use Rattle.hold_files.specs.declared.memory.Calls.{Calls}
+use Rattle.hold_files.specs.declared.memory.MemoryFiles.{MemoryFiles}
+use Rattle.hold_files.specs.Memory.{Entries, entry_of, told_in, IsNext}
 
 -- at some name, the entry is as before, or the old one is replaced by the new one
 abbrev pub Turns : Option Entry → Option Entry → Entry → Entry → Type 0
@@ -96,3 +98,15 @@ IsReplaced-lent m n name old new had writes =
       turns = λ q. turn_by m n name q old new (bytes_eq name q) (bytes_eq-Decides name q).0 (λ differs. updates.2 q (at_is q ∙ differs)) had updates.1;
       others = λ q other. updates.2 q (at_is q ∙ apart (bytes_eq name q) (name ≡ q) (bytes_eq-Decides name q).0 (λ e. other (sym e)));
     }
+
+-- files in memory after a call that replaces one entry
+pub IsNext-replaced : (old new : MemoryFiles) (next : Calls) (name : List ℕ) (e w : Entry)
+    → IsReplaced old.entries new.entries name e w → w.is_output ≡ e.is_output → w.buffer.room ≡ e.buffer.room
+    → new.calls ≡ next → new.fails ≡ old.fails → new.said.room ≡ old.said.room → IsNext old new next
+IsNext-replaced old new next name e w replaced output room calls fails said = record {
+  calls = calls;
+  fails = fails;
+  outputs = λ q. kept (λ e. e.is_output) (entry_of old.entries q) (entry_of new.entries q) e w (replaced.turns q) output;
+  rooms = λ q. kept (λ e. e.buffer.room) (entry_of old.entries q) (entry_of new.entries q) e w (replaced.turns q) room;
+  said = said;
+}

@@ -5,17 +5,22 @@
 -- IsOutput m name: there is a file of that name, and it may be written.
 -- IsRoomOf m room: every output, and what is said, may grow to that many bytes.
 -- HasNoFault told: all counts of faults are 0. IsFresh m listed: no call was made yet, and the listed ones are to fail.
+-- put_growth, say_growth: how many bytes the next put or saying takes where it doesn't fail.
+-- IsNext old new calls: after one call: the numbers of the next calls are these, and the calls that fail, the
+--   outputs and the rooms are as before.
 -- ReadFails, StartFails, PutFails, SayFails: when the next call fails: its number is listed, there is no
 --   such file (or it is no output), or the room is used up.
 use Rattle.std.specs.Prelude.{◌≡◌, ◌⊎◌, ℕ, List, Option, Some, None, IsTrue, IsSomeAnd, Contains, unwrap_or, option_map}
+use Rattle.std.specs.Option.{option_map_or}
 use Rattle.std.specs.Ordering.{nat_cmp}
 use Rattle.std.specs.Cmp.Lexicographic.{slice_cmp}
 use Rattle.std.specs.BTreeMap.{BTreeMap, get}
 use Rattle.hold_files.specs.declared.memory.MemoryFiles.{MemoryFiles}
+use Rattle.hold_files.specs.declared.memory.Calls.{Calls}
 use Rattle.hold_files.specs.declared.memory.Fails.{Fails}
 use Rattle.hold_files.specs.declared.memory.entry.Entry.{Entry}
 use Rattle.hold_files.specs.Told.{Told}
-use Rattle.hold_files.specs.Shelf.{IsFull}
+use Rattle.hold_files.specs.Shelf.{IsFull, growth}
 
 -- files by name
 abbrev pub Entries : Type 0
@@ -61,6 +66,22 @@ pub record IsFresh (m : MemoryFiles) (listed : Fails) : Type 0 where
   pub starts : m.calls.starts ≡ 0
   pub puts : m.calls.puts ≡ 0
   pub says : m.calls.says ≡ 0
+
+-- how many bytes a put takes
+abbrev pub put_growth : MemoryFiles → List ℕ → List ℕ → ℕ
+put_growth m name piece = option_map_or (λ e. growth e.buffer piece) (entry_of m.entries name) 0
+
+-- how many bytes a saying takes
+abbrev pub say_growth : MemoryFiles → List ℕ → ℕ
+say_growth m piece = growth m.said piece
+
+-- one call later
+pub record IsNext (old new : MemoryFiles) (next : Calls) : Type 0 where
+  pub calls : new.calls ≡ next
+  pub fails : new.fails ≡ old.fails
+  pub outputs : (q : List ℕ) → option_map (λ e. e.is_output) (entry_of new.entries q) ≡ option_map (λ e. e.is_output) (entry_of old.entries q)
+  pub rooms : (q : List ℕ) → option_map (λ e. e.buffer.room) (entry_of new.entries q) ≡ option_map (λ e. e.buffer.room) (entry_of old.entries q)
+  pub said : new.said.room ≡ old.said.room
 
 -- the next read fails
 abbrev pub ReadFails : MemoryFiles → List ℕ → Type 0

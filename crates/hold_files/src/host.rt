@@ -1,5 +1,4 @@
 ghost use Rattle.std.specs.Prelude.{◌≡◌, ◌<◌, ◌≤◌, length, IfOk};
-ghost use Rattle.hold_files.specs.Host.{untold};
 
 use crate::files::{Failed, Files};
 use hold_base::Name;
@@ -18,11 +17,11 @@ pub struct HostFiles<R: Runtime> {
 }
 
 impl<R: Runtime> HostFiles<R> {
+    ghost use Rattle.hold_files.specs.Host.{untold, told_of_host};
+
     /// Keeps the runtime; no call has failed yet.
     pub fn new(rt: R) -> HostFiles<R>
-        ensures reads { result.read_faults ≡ 0 }
-        ensures writes { result.write_faults ≡ 0 }
-        ensures says { result.say_faults ≡ 0 }
+        ensures { told_of_host result ≡ untold 0 0 0 }
     {
         HostFiles {
             rt,
@@ -34,7 +33,9 @@ impl<R: Runtime> HostFiles<R> {
 }
 
 impl<R: Runtime> Files for HostFiles<R> {
-    ghost told = { λ h. untold h.read_faults h.write_faults h.say_faults };
+    ghost use Rattle.hold_files.specs.Host.{told_of_host};
+
+    ghost told = { told_of_host };
 
     fn read_at(&mut self, name: &Name, at: u64, into: &mut [u8]) -> Result<usize, Failed> {
         let read = read_from(&self.rt, name, at, into);
@@ -116,5 +117,29 @@ fn path_of(name: &Name) -> Result<&str, Failed> {
     match str::from_utf8(name.bytes()) {
         Ok(path) => Ok(path),
         Err(_) => Err(Failed),
+    }
+}
+
+#[cfg(test)]
+mod tests {
+    use super::*;
+    use crate::{ReadError, read_whole, say_whole, write_whole};
+
+    #[test]
+    fn writes_and_reads_a_real_file(rt: HostRuntime) {
+        let name = Name::from_bytes(rt.alloc(), b"hold_files_host_test.txt").expect(&rt, "memory");
+        let missing = Name::from_bytes(rt.alloc(), b"no such folder/at all").expect(&rt, "memory");
+        let mut files = HostFiles::new(rt.clone());
+
+        assert!(rt; write_whole(&mut files, &name, b"hold this\n").is_ok());
+        let text = read_whole(rt.alloc(), &mut files, &name, u64::MAX).expect(&rt, "read");
+        assert!(rt; text.as_slice() == b"hold this\n");
+        assert!(rt; read_whole(rt.alloc(), &mut files, &name, 9).err() == Some(ReadError::TooLong));
+        assert!(rt;
+            read_whole(rt.alloc(), &mut files, &missing, 9).err() == Some(ReadError::Fault)
+        );
+        assert!(rt; write_whole(&mut files, &missing, b"x").is_err());
+        assert!(rt; say_whole(&mut files, b"").is_ok());
+        assert!(rt; fs::remove_file(&rt, "hold_files_host_test.txt").is_ok());
     }
 }

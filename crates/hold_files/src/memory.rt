@@ -92,8 +92,8 @@ impl MemoryFiles {
 }
 
 impl Files for MemoryFiles {
-    ghost use Rattle.hold_files.specs.Memory.{told_of, ReadFails, StartFails, PutFails, SayFails};
-    ghost use Rattle.hold_files.specs.Shelf.{bytes_at, growth};
+    ghost use Rattle.hold_files.specs.Memory.{told_of, ReadFails, StartFails, PutFails, SayFails, IsNext, put_growth, say_growth};
+    ghost use Rattle.hold_files.specs.Shelf.{bytes_at, risen};
 
     ghost told = { told_of };
 
@@ -107,6 +107,9 @@ impl Files for MemoryFiles {
         ensures stays { OnlyReads (told_of self.old) (told_of self.new) }
 
         ensures cause { IsErr result ↔ ReadFails self.old name.now }
+        ensures all { IfOk result (λ n. (text : List ℕ) → (told_of self.old).content name.now ≡ Some text
+            → n ≡ bytes_at at into.old text) }
+        ensures next { IsNext self.old self.new (record self.old.calls { reads = risen self.old.calls.reads }) }
     {
         let is_refused = is_listed(&self.fails.reads, self.calls.reads);
         self.calls.reads = self.calls.reads.saturating_add(1);
@@ -124,6 +127,7 @@ impl Files for MemoryFiles {
         ensures stays { OnlyWrites (told_of self.old) (told_of self.new) name.now }
 
         ensures cause { IsErr result ↔ StartFails self.old name.now }
+        ensures next { IsNext self.old self.new (record self.old.calls { starts = risen self.old.calls.starts }) }
     {
         let is_refused = is_listed(&self.fails.starts, self.calls.starts);
         self.calls.starts = self.calls.starts.saturating_add(1);
@@ -144,6 +148,8 @@ impl Files for MemoryFiles {
         ensures stays { OnlyWrites (told_of self.old) (told_of self.new) name.now }
 
         ensures cause { IsErr result ↔ PutFails self.old name.now piece.now }
+        ensures fits { IfOk result (λ n. n ≡ put_growth self.old name.now piece.now) }
+        ensures next { IsNext self.old self.new (record self.old.calls { puts = risen self.old.calls.puts }) }
     {
         let is_refused = is_listed(&self.fails.puts, self.calls.puts);
         self.calls.puts = self.calls.puts.saturating_add(1);
@@ -164,6 +170,8 @@ impl Files for MemoryFiles {
         ensures stays { OnlySays (told_of self.old) (told_of self.new) }
 
         ensures cause { IsErr result ↔ SayFails self.old piece.now }
+        ensures fits { IfOk result (λ n. n ≡ say_growth self.old piece.now) }
+        ensures next { IsNext self.old self.new (record self.old.calls { says = risen self.old.calls.says }) }
     {
         let is_refused = is_listed(&self.fails.says, self.calls.says);
         self.calls.says = self.calls.says.saturating_add(1);

@@ -37,6 +37,8 @@ impl Entry {
         ensures ok { OnOk result (self.new ≡ self.old) }
         ensures err { OnErr result (self.new ≡ record self.old { read_faults = risen self.old.read_faults }) }
         ensures text { self.new.buffer.text ≡ self.old.buffer.text }
+        ensures output { self.new.is_output ≡ self.old.is_output }
+        ensures room { self.new.buffer.room ≡ self.old.buffer.room }
         ensures reads { self.old.read_faults ≤ self.new.read_faults }
         ensures writes { self.new.write_faults ≡ self.old.write_faults }
     {
@@ -52,6 +54,8 @@ impl Entry {
         ensures failed { IsErr result ↔ (IsTrue is_refused ⊎ (¬ IsTrue self.old.is_output)) }
         ensures ok { OnOk result (self.new ≡ record self.old { buffer = record { text = []; room = self.old.buffer.room } }) }
         ensures err { OnErr result (self.new ≡ record self.old { write_faults = risen self.old.write_faults }) }
+        ensures output { self.new.is_output ≡ self.old.is_output }
+        ensures room { self.new.buffer.room ≡ self.old.buffer.room }
         ensures reads { self.new.read_faults ≡ self.old.read_faults }
         ensures writes { self.old.write_faults ≤ self.new.write_faults }
     {
@@ -70,6 +74,8 @@ impl Entry {
         ensures count { IfOk result (λ n. n ≡ growth self.old.buffer piece.now) }
         ensures ok { IfOk result (λ n. self.new ≡ record self.old { buffer = record { text = self.old.buffer.text ++ take n piece.now; room = self.old.buffer.room } }) }
         ensures err { OnErr result (self.new ≡ record self.old { write_faults = risen self.old.write_faults }) }
+        ensures output { self.new.is_output ≡ self.old.is_output }
+        ensures room { self.new.buffer.room ≡ self.old.buffer.room }
         ensures reads { self.new.read_faults ≡ self.old.read_faults }
         ensures writes { self.old.write_faults ≤ self.new.write_faults }
     {
