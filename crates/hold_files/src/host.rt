@@ -129,11 +129,11 @@ mod tests {
     fn writes_and_reads_a_real_file(rt: HostRuntime) {
         let name = Name::from_bytes(rt.alloc(), b"hold_files_host_test.txt").expect(&rt, "memory");
         let missing = Name::from_bytes(rt.alloc(), b"no such folder/at all").expect(&rt, "memory");
-        let mut files = HostFiles::new(rt.clone());
+        let mut files = HostFiles::new(rt);
 
         assert!(rt; write_whole(&mut files, &name, b"hold this\n").is_ok());
         let text = read_whole(rt.alloc(), &mut files, &name, u64::MAX).expect(&rt, "read");
-        assert!(rt; text.as_slice() == b"hold this\n");
+        assert!(rt; text.as_slice() == b"hold this\n".as_slice());
         assert!(rt; read_whole(rt.alloc(), &mut files, &name, 9).err() == Some(ReadError::TooLong));
         assert!(rt;
             read_whole(rt.alloc(), &mut files, &missing, 9).err() == Some(ReadError::Fault)

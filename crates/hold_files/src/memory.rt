@@ -191,3 +191,6 @@ fn is_listed(numbers: &List<u64>, number: u64) -> bool
 {
     numbers.as_slice().contains(&number)
 }
+
+#[cfg(test)]
+mod tests;

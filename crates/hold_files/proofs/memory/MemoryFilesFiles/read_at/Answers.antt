@@ -1,6 +1,5 @@
 use Rattle.std.proofs.Common.{◌≡◌, sym, ap, refl, rules}
 use Rattle.hold_files.specs.Shelf.{risen}
-use Rattle.hold_files.specs.declared.memory.Calls.{Calls}
 use Rattle.hold_files.proofs.EntryLemmas.{IsReplaced-lent, OnlyReads-replaced, IsNext-replaced}
 use Rattle.hold_files.proofs.memory.MemoryFilesFiles.read_at.Goals as goal
 
