@@ -1,0 +1,13 @@
+//! The netlist: a flat module of ports, wires, instances and assignments of single bits; what makes it
+//! valid; and its canonical Verilog text, as definitions that every reader and writer speaks of.
+#![tactic(auto)]
+
+mod fault;
+mod inst;
+mod kind;
+mod wire;
+
+pub use fault::NetFault;
+pub use inst::{Assign, Inst, Pin, Source};
+pub use kind::Kind;
+pub use wire::{Direction, Port, Wire};
