@@ -3,6 +3,7 @@ pub mod Bits
 pub mod Pins
 pub mod Names
 pub mod WellFormed
+pub mod NameTable
 pub mod Doubles
 pub mod Limits
 pub mod Valid

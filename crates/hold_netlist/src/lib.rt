@@ -5,9 +5,11 @@
 mod fault;
 mod inst;
 mod kind;
+mod name_table;
 mod wire;
 
 pub use fault::NetFault;
 pub use inst::{Assign, Inst, Pin, Source};
 pub use kind::Kind;
+pub use name_table::NameTable;
 pub use wire::{Direction, Port, Wire};
