@@ -1,1 +1,2 @@
 pub mod NameTableLemmas
+pub mod DoubleLemmas

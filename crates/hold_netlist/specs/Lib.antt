@@ -6,6 +6,7 @@ pub mod WellFormed
 pub mod NameTable
 pub mod Doubles
 pub mod Limits
+pub mod Faults
 pub mod Valid
 pub mod Keywords
 pub mod Identifier

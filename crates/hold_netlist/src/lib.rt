@@ -2,6 +2,7 @@
 //! valid; and its canonical Verilog text, as definitions that every reader and writer speaks of.
 #![tactic(auto)]
 
+mod doubles;
 mod fault;
 mod inst;
 mod kind;
