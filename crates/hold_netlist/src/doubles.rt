@@ -1,4 +1,5 @@
 ghost use Rattle.std.specs.Prelude.{◌≡◌, ◌++◌, ◌∷◌, [], Some, None, OnOk, if◌then◌else◌};
+ghost use Rattle.hold_netlist.specs.Design.{design};
 ghost use Rattle.hold_netlist.specs.Doubles.{first_repeat, first_double_in_insts, first_double_name};
 ghost use Rattle.hold_netlist.specs.Faults.{double_fault, StopsAt};
 ghost use Rattle.hold_netlist.specs.Names.{is_among, wire_names, pin_names};
@@ -54,4 +55,17 @@ fn see_insts(alloc: Global, seen: &mut NameTable, insts: &[Inst]) -> Result<(), 
         see_pins(alloc, inst.pins.as_slice())?;
     }
     Ok(())
+}
+
+/// Tests that no two wires or instances share a name and that no instance names a pin twice.
+pub(crate) fn test_names(
+    alloc: Global,
+    wires: &[Wire],
+    insts: &[Inst],
+) -> Result<(), Stop<NetFault>>
+    ensures { StopsAt result (double_fault (first_double_name (design [] [] wires.now insts.now []))) }
+{
+    let mut seen = NameTable::new(alloc);
+    see_wires(alloc, &mut seen, wires)?;
+    see_insts(alloc, &mut seen, insts)
 }

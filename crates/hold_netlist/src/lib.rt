@@ -6,11 +6,14 @@ mod doubles;
 mod fault;
 mod inst;
 mod kind;
+mod limits;
 mod name_table;
+mod netlist;
 mod wire;
 
 pub use fault::NetFault;
 pub use inst::{Assign, Inst, Pin, Source};
 pub use kind::Kind;
 pub use name_table::NameTable;
+pub use netlist::Netlist;
 pub use wire::{Direction, Port, Wire};
