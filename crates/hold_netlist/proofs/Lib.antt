@@ -1,2 +1,3 @@
 pub mod NameTableLemmas
 pub mod DoubleLemmas
+pub mod FirstPinLemmas

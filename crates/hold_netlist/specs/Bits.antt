@@ -2,7 +2,7 @@
 -- width_of w: how many bits a wire has.
 -- bits_of wires: how many bits the wires have. Net bits are numbered from 0 wire by wire, and within a
 -- wire from its left bound to its right.
-use Rattle.std.specs.Prelude.{ℕ, ◌+◌, ◌-◌, List, map, sum, Option, Some, None}
+use Rattle.std.specs.Prelude.{ℕ, ◌+◌, ◌-◌, List, sum_by, Option, Some, None}
 use Rattle.hold_netlist.specs.declared.wire.Wire.{Wire}
 
 abbrev pub width_of_range : Option (ℕ × ℕ) → ℕ
@@ -13,4 +13,4 @@ abbrev pub width_of : Wire → ℕ
 width_of w = width_of_range w.range
 
 abbrev pub bits_of : List Wire → ℕ
-bits_of wires = sum (map width_of wires)
+bits_of wires = sum_by width_of wires

@@ -6,13 +6,13 @@
 -- port_bits d: how many bits the ports have, which are the first wires.
 -- pins_of d: how many pins there are: the connections, and then the port bits.
 -- IsConnection insts p i j: pin p is connection j of instance i, both counted from 0.
-use Rattle.std.specs.Prelude.{◌≡◌, ℕ, ◌+◌, ◌<◌, List, [], ◌∷◌, length, map, sum, take, slice_get, Some}
+use Rattle.std.specs.Prelude.{◌≡◌, ℕ, ◌+◌, ◌<◌, List, [], ◌∷◌, length, sum_by, take, slice_get, Some}
 use Rattle.hold_netlist.specs.declared.inst.Inst.{Inst}
 use Rattle.hold_netlist.specs.Design.{Design}
 use Rattle.hold_netlist.specs.Bits.{bits_of}
 
 abbrev pub connection_count : List Inst → ℕ
-connection_count insts = sum (map (λ i. length i.pins) insts)
+connection_count insts = sum_by (λ i. length i.pins) insts
 
 abbrev pub first_pin : List Inst → ℕ → ℕ
 first_pin insts i = connection_count (take i insts)

@@ -4,6 +4,7 @@
 
 mod doubles;
 mod fault;
+mod first_pins;
 mod inst;
 mod kind;
 mod limits;

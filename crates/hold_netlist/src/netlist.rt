@@ -1,16 +1,17 @@
-ghost use Rattle.std.specs.Prelude.{◌≡◌, ◌≤◌, ◌↔◌, ℕ, Some, None, IfOk, OnOk, IsTrue};
+ghost use Rattle.std.specs.Prelude.{◌≡◌, ◌≤◌, ◌↔◌, ℕ, Some, None, IfOk, OnOk, IfSome, IsNone, IsTrue};
 ghost use Rattle.hold_netlist.specs.Design.{design};
 ghost use Rattle.hold_netlist.specs.Faults.{first_fault, StopsAt};
-ghost use Rattle.hold_netlist.specs.Pins.{connection_count, first_pins_from};
+ghost use Rattle.hold_netlist.specs.Pins.{connection_count, first_pins_from, IsConnection};
 ghost use Rattle.hold_netlist.specs.Valid.{IsValid};
 ghost use Rattle.hold_netlist.specs.WellFormed.{IsWellFormed};
 
 use crate::doubles::test_names;
 use crate::fault::NetFault;
+use crate::first_pins::{connection_at, first_pins};
 use crate::inst::{Assign, Inst};
 use crate::limits::passed_limit;
 use crate::wire::{Port, Wire};
-use hold_base::{Memory, Name, Stop};
+use hold_base::{InstNo, Name, PinNo, Stop};
 use std::alloc::Global;
 use std::marker::Model;
 
@@ -38,20 +39,6 @@ impl Model for Netlist {
     ghost view = { λ n. design n.name n.ports.items n.wires.items n.insts.items n.assigns.items };
 
     ghost invariant = { λ n. IsValid (design n.name n.ports.items n.wires.items n.insts.items n.assigns.items) × (n.first_pins.items ≡ first_pins_from 0 n.insts.items) };
-}
-
-/// The number of the first connection of each instance.
-fn first_pins(alloc: Global, insts: &[Inst]) -> Result<Vec<u32>, Memory>
-    requires { connection_count insts.now ≤ 67108864 }
-    ensures { IfOk result (λ firsts. firsts.items ≡ first_pins_from 0 insts.now) }
-{
-    let mut firsts = Vec::with_capacity(alloc, insts.len())?;
-    let mut next = 0;
-    for inst in insts {
-        firsts.push(next)?;
-        next += inst.pins.as_slice().len() as u32;
-    }
-    Ok(firsts)
 }
 
 impl Netlist {
@@ -117,6 +104,15 @@ impl Netlist {
         ensures { result.now ≡ self.now.assigns }
     {
         self.assigns.as_slice()
+    }
+
+    /// The connection of this number, as its instance and its place there; none for a port bit, and none past
+    /// the last pin.
+    pub fn pin(&self, pin: PinNo) -> Option<(InstNo, u32)>
+        ensures found { IfSome result (λ c. IsConnection self.now.insts pin.0 c.0.0 c.1) }
+        ensures none { IsNone result ↔ (connection_count self.now.insts ≤ pin.0) }
+    {
+        connection_at(&self.first_pins, &self.insts, pin)
     }
 
     /// Does nothing. A proof learns from the call that the netlist is valid.

@@ -1,6 +1,6 @@
 use Rattle.std.proofs.Common.{◌≡◌, ◌+◌, ◌≤◌, ◌++◌, drop}
 use Rattle.hold_netlist.specs.Pins.{connection_count, first_pins_from}
-use Rattle.hold_netlist.proofs.netlist.first_pins.Given as goal
+use Rattle.hold_netlist.proofs.first_pins.first_pins.Given as goal
 
 abbrev pub invariant-loop-inst : goal.invariant-loop-inst
 invariant-loop-inst l = record {
