@@ -57,7 +57,7 @@ first_pin-length insts = ap connection_count (take_all (length insts) insts (ome
 pub first_pins-IsNonDecreasing : (insts : List Inst) → IsNonDecreasing (first_pins_from 0 insts)
 first_pins-IsNonDecreasing insts = IsNonDecreasingBy-from_default (λ x. x) (first_pins_from 0 insts) 0
     (λ i j h within. let long = length-first_pins 0 insts in
-      omega (arith, first_pins_from-at 0 insts i (omega arith), first_pins_from-at 0 insts j (omega arith), first_pin-le insts i j h))
+    omega (arith, first_pins_from-at 0 insts i (omega arith), first_pins_from-at 0 insts j (omega arith), first_pin-le insts i j h))
 
 -- a connection's number lies before the next instance's first
 pub IsConnection-next : (insts : List Inst) (p i j : ℕ) → IsConnection insts p i j → p < first_pin insts (i + 1)

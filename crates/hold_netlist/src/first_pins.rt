@@ -31,11 +31,7 @@ fn begun(first_pins: &[u32], pin: u32) -> usize
 }
 
 /// The connection of this number, as its instance and its place there.
-pub(crate) fn connection_at(
-    first_pins: &[u32],
-    insts: &[Inst],
-    pin: PinNo,
-) -> Option<(InstNo, u32)>
+pub(crate) fn connection_at(first_pins: &[u32], insts: &[Inst], pin: PinNo) -> Option<(InstNo, u32)>
     requires first_pins { first_pins.now ≡ first_pins_from 0 insts.now }
     requires few { length insts.now ≤ 33554432 }
     ensures found { IfSome result (λ c. IsConnection insts.now pin.0 c.0.0 c.1) }

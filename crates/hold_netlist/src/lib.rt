@@ -10,6 +10,7 @@ mod kind;
 mod limits;
 mod name_table;
 mod netlist;
+mod same;
 mod wire;
 
 pub use fault::NetFault;

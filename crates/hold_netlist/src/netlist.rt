@@ -10,6 +10,7 @@ use crate::fault::NetFault;
 use crate::first_pins::{connection_at, first_pins};
 use crate::inst::{Assign, Inst};
 use crate::limits::passed_limit;
+use crate::same::{same_assigns, same_insts, same_ports, same_wires};
 use crate::wire::{Port, Wire};
 use hold_base::{InstNo, Name, PinNo, Stop};
 use std::alloc::Global;
@@ -17,7 +18,7 @@ use std::marker::Model;
 
 /// A valid netlist: a flat module whose parts fit together, in which no name stands twice and no count
 /// passes its limit. The ports are the first wires.
-#[derive(Clone, Debug, Drop)]
+#[derive(Debug, Drop)]
 pub struct Netlist {
     name: Name,
     ports: Vec<Port>,
@@ -113,6 +114,17 @@ impl Netlist {
         ensures none { IsNone result ↔ (connection_count self.now.insts ≤ pin.0) }
     {
         connection_at(&self.first_pins, &self.insts, pin)
+    }
+
+    /// Whether all parts of the two are equal.
+    pub fn same(&self, other: &Netlist) -> bool
+        ensures { IsTrue result ↔ (self.now ≡ other.now) }
+    {
+        self.name == other.name
+            && same_ports(&self.ports, &other.ports)
+            && same_wires(&self.wires, &other.wires)
+            && same_insts(&self.insts, &other.insts)
+            && same_assigns(&self.assigns, &other.assigns)
     }
 
     /// Does nothing. A proof learns from the call that the netlist is valid.

@@ -1,4 +1,4 @@
-use Rattle.std.proofs.Common.{◌≡◌, ◌∙◌, ap, rules, is_none}
+use Rattle.std.proofs.Common.{◌≡◌, ◌∙◌, ap, is_none}
 use Rattle.hold_netlist.specs.NameTable.{number_of}
 use Rattle.hold_netlist.proofs.DoubleLemmas.{double_fault_new, double_fault_old}
 use Rattle.hold_netlist.proofs.doubles.see.Goals as goal

@@ -1,4 +1,4 @@
-use Rattle.std.proofs.Common.{◌≡◌, ◌++◌, take, drop}
+use Rattle.std.proofs.Common.{◌≡◌, ◌++◌, drop}
 use Rattle.hold_netlist.specs.Doubles.{first_repeat}
 use Rattle.hold_netlist.specs.Names.{wire_names}
 use Rattle.hold_netlist.specs.NameTable.{names_of}
@@ -8,4 +8,5 @@ use Rattle.hold_netlist.proofs.doubles.see_wires.Given as goal
 abbrev pub invariant-loop-wire : goal.invariant-loop-wire
 invariant-loop-wire l = record {
   rest : first_repeat (names_of l.seen) (wire_names (drop l.wire-index l.wires)) ≡ first_repeat (names_of l.initial.seen) (wire_names l.wires);
-  seen : names_of l.seen ++ wire_names (drop l.wire-index l.wires) ≡ names_of l.initial.seen ++ wire_names l.wires }
+  seen : names_of l.seen ++ wire_names (drop l.wire-index l.wires) ≡ names_of l.initial.seen ++ wire_names l.wires;
+}

@@ -1,4 +1,4 @@
-use Rattle.std.proofs.Common.{◌≡◌, ℕ, ◌+◌, ◌-◌, ◌<◌, ◌≤◌, length, arith, refl, ap, sym, ◌∙◌}
+use Rattle.std.proofs.Common.{◌≡◌, ◌+◌, ◌-◌, length, arith, refl, ap, sym, ◌∙◌}
 use Rattle.hold_netlist.specs.declared.inst.Inst.{Inst}
 use Rattle.hold_netlist.proofs.FirstPinLemmas.{first_pins-IsNonDecreasing, IsConnection-count, length-table, none_begun, IsConnection-here, past_here}
 use Rattle.hold_netlist.proofs.first_pins.connection_at.Goals as goal
@@ -19,9 +19,11 @@ pub returns-then-place-as_slice-clause-none : goal.returns-then-place-as_slice-c
 returns-then-place-as_slice-clause-none c =
     let long = length-table c.args.insts.now c.args.first_pins.now c.requires.first_pins c.args.pin.0 in
     let pins : length c.as_slice.result.now ≡ length c.index-insts-inst.result.pins = ap length c.as_slice.ensures ∙ ap (λ (i : Inst). length i.pins) (sym c.index-insts-inst.is) in
-    let next : c.begun-begun.result - 1 + 1 ≡ c.begun-begun.result = omega arith in
-    (λ _. past_here c.args.insts.now c.args.first_pins.now c.requires.first_pins c.args.pin.0 (c.begun-begun.result - 1) c.index-insts-inst.result (omega arith) c.index-insts-inst.is
-      (c.begun-begun.ensures.begun (omega arith)) (omega arith) (rw next c.begun-begun.ensures.rest), λ _. refl)
+    let next : c.begun-begun.result - 1 + 1 ≡ c.begun-begun.result = omega arith in (
+      λ _. past_here c.args.insts.now c.args.first_pins.now c.requires.first_pins c.args.pin.0 (c.begun-begun.result - 1) c.index-insts-inst.result (omega arith) c.index-insts-inst.is
+          (c.begun-begun.ensures.begun (omega arith)) (omega arith) (rw next c.begun-begun.ensures.rest),
+      λ _. refl,
+    )
 
 pub overflow_cast-result : goal.overflow_cast-result
 overflow_cast-result c = omega (arith, length-table c.args.insts.now c.args.first_pins.now c.requires.first_pins c.args.pin.0)
@@ -31,7 +33,7 @@ returns-clause-found c =
     let long = length-table c.args.insts.now c.args.first_pins.now c.requires.first_pins c.args.pin.0 in
     let pins : length c.as_slice.result.now ≡ length c.index-insts-inst.result.pins = ap length c.as_slice.ensures ∙ ap (λ (i : Inst). length i.pins) (sym c.index-insts-inst.is) in
     IsConnection-here c.args.insts.now c.args.first_pins.now c.requires.first_pins c.args.pin.0 (c.begun-begun.result - 1) c.index-insts-inst.result (omega arith) c.index-insts-inst.is
-      (c.begun-begun.ensures.begun (omega arith)) (omega arith)
+    (c.begun-begun.ensures.begun (omega arith)) (omega arith)
 
 pub returns-clause-none : goal.returns-clause-none
 returns-clause-none c =

@@ -5,4 +5,5 @@ use Rattle.hold_netlist.proofs.limits.connections_within.Given as goal
 abbrev pub invariant-loop-inst : goal.invariant-loop-inst
 invariant-loop-inst l = record {
   rest : l.connections + connection_count (drop l.inst-index l.insts) ≡ connection_count l.insts;
-  within : l.connections ≤ l.most }
+  within : l.connections ≤ l.most;
+}
