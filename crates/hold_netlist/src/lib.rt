@@ -2,6 +2,7 @@
 //! valid; and its canonical Verilog text, as definitions that every reader and writer speaks of.
 #![tactic(auto)]
 
+mod copy;
 mod doubles;
 mod fault;
 mod first_pins;

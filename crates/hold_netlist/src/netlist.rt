@@ -5,6 +5,9 @@ ghost use Rattle.hold_netlist.specs.Pins.{connection_count, first_pins_from, IsC
 ghost use Rattle.hold_netlist.specs.Valid.{IsValid};
 ghost use Rattle.hold_netlist.specs.WellFormed.{IsWellFormed};
 
+use crate::copy::{
+    copy_assigns, copy_insts, copy_name, copy_numbers, copy_ports, copy_wires,
+};
 use crate::doubles::test_names;
 use crate::fault::NetFault;
 use crate::first_pins::{connection_at, first_pins};
@@ -13,7 +16,7 @@ use crate::limits::passed_limit;
 use crate::same::{same_assigns, same_insts, same_ports, same_wires};
 use crate::wire::{Port, Wire};
 use hold_base::{InstNo, Name, PinNo, Stop};
-use std::alloc::Global;
+use std::alloc::{AllocError, Global};
 use std::marker::Model;
 
 /// A valid netlist: a flat module whose parts fit together, in which no name stands twice and no count
@@ -132,5 +135,20 @@ impl Netlist {
         ensures { IsValid self.now }
     {
         let _name = &self.name;
+    }
+}
+
+impl Clone for Netlist {
+    ghost is_clone = { λ netlist copy. copy ≡ netlist };
+
+    fn clone(&self) -> Result<Netlist, AllocError> {
+        Ok(Netlist {
+            name: copy_name(&self.name)?,
+            ports: copy_ports(&self.ports)?,
+            wires: copy_wires(&self.wires)?,
+            insts: copy_insts(&self.insts)?,
+            assigns: copy_assigns(&self.assigns)?,
+            first_pins: copy_numbers(&self.first_pins)?,
+        })
     }
 }
