@@ -12,6 +12,8 @@ mod limits;
 mod name_table;
 mod netlist;
 mod same;
+#[cfg(test)]
+mod tests;
 mod wire;
 
 pub use fault::NetFault;
