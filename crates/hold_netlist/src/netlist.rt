@@ -5,9 +5,7 @@ ghost use Rattle.hold_netlist.specs.Pins.{connection_count, first_pins_from, IsC
 ghost use Rattle.hold_netlist.specs.Valid.{IsValid};
 ghost use Rattle.hold_netlist.specs.WellFormed.{IsWellFormed};
 
-use crate::copy::{
-    copy_assigns, copy_insts, copy_name, copy_numbers, copy_ports, copy_wires,
-};
+use crate::copy::{copy_assigns, copy_insts, copy_name, copy_numbers, copy_ports, copy_wires};
 use crate::doubles::test_names;
 use crate::fault::NetFault;
 use crate::first_pins::{connection_at, first_pins};

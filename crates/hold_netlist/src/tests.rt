@@ -1,8 +1,8 @@
 ghost use Rattle.std.specs.Prelude.{◌≡◌, IfOk};
 ghost use Rattle.hold_netlist.specs.Names.{IsName};
 
-use crate::{Assign, Direction, Inst, NameTable, NetFault, Netlist, Pin, Port, Source, Wire};
-use hold_base::{InstNo, List, Name, NetNo, PinNo, Stop};
+use crate::{Direction, NameTable, NetFault, Netlist, Port, Wire};
+use hold_base::{Name, PinNo, Stop};
 use std::alloc::Global;
 
 fn name(alloc: Global, text: &[u8]) -> Result<Name, Stop<NetFault>>
@@ -12,8 +12,7 @@ fn name(alloc: Global, text: &[u8]) -> Result<Name, Stop<NetFault>>
     Ok(Name::from_bytes(alloc, text)?)
 }
 
-/// `module m(a);`, with `a` an input, a wire `y`, and the instances `u` of two connections, `v` of none and
-/// `w` of one.
+/// `module m(a);`, with `a` an input, and a wire `y`.
 fn small(alloc: Global) -> Result<Netlist, Stop<NetFault>> {
     let ports = Vec::from_array(
         alloc,
@@ -41,8 +40,20 @@ fn small(alloc: Global) -> Result<Netlist, Stop<NetFault>> {
 }
 
 #[test]
-fn makes_a_netlist(rt: HostRuntime) -> Result<(), Stop<NetFault>> {
+fn a_copy_has_the_same_parts(rt: HostRuntime) -> Result<(), Stop<NetFault>> {
     let netlist = small(rt.alloc())?;
-    assert_eq!(rt; netlist.ports().len(), 1);
+    let copy = netlist.clone()?;
+    assert!(rt; netlist.same(&copy));
+    assert_eq!(rt; netlist.pin(PinNo(0)), None);
+    Ok(())
+}
+
+#[test]
+fn a_table_keeps_the_first_number(rt: HostRuntime) -> Result<(), Stop<NetFault>> {
+    let mut table = NameTable::new(rt.alloc());
+    assert!(rt; table.add(rt.alloc(), b"a", 3)?);
+    assert!(rt; !table.add(rt.alloc(), b"a", 4)?);
+    assert_eq!(rt; table.find(b"a"), Some(3));
+    assert_eq!(rt; table.find(b"b"), None);
     Ok(())
 }
