@@ -1,0 +1,4 @@
+pub mod NameTableLemmas
+pub mod DoubleLemmas
+pub mod FirstPinLemmas
+pub mod SameLemmas

@@ -1,0 +1,9 @@
+use Rattle.std.proofs.Common.{◌≡◌, ◌+◌, ◌≤◌, drop}
+use Rattle.hold_netlist.specs.Pins.{connection_count}
+use Rattle.hold_netlist.proofs.limits.connections_within.Given as goal
+
+abbrev pub invariant-loop-inst : goal.invariant-loop-inst
+invariant-loop-inst l = record {
+  rest : l.connections + connection_count (drop l.inst-index l.insts) ≡ connection_count l.insts;
+  within : l.connections ≤ l.most;
+}

@@ -1,0 +1,13 @@
+pub mod Design
+pub mod Bits
+pub mod Pins
+pub mod Names
+pub mod WellFormed
+pub mod NameTable
+pub mod Doubles
+pub mod Limits
+pub mod Faults
+pub mod Valid
+pub mod Keywords
+pub mod Identifier
+pub mod CanonicalText

@@ -1,0 +1,71 @@
+ghost use Rattle.std.specs.Prelude.{◌≡◌, ◌++◌, ◌∷◌, [], Some, None, OnOk, if◌then◌else◌};
+ghost use Rattle.hold_netlist.specs.Design.{design};
+ghost use Rattle.hold_netlist.specs.Doubles.{first_repeat, first_double_in_insts, first_double_name};
+ghost use Rattle.hold_netlist.specs.Faults.{double_fault, StopsAt};
+ghost use Rattle.hold_netlist.specs.Names.{is_among, wire_names, pin_names};
+ghost use Rattle.hold_netlist.specs.NameTable.{names_of};
+
+use crate::fault::NetFault;
+use crate::inst::{Inst, Pin};
+use crate::name_table::NameTable;
+use crate::wire::Wire;
+use hold_base::{Name, Stop};
+use std::alloc::Global;
+
+/// Puts a name among those seen, which it must be new to. The numbers in the table mean nothing.
+fn see(alloc: Global, seen: &mut NameTable, name: &Name) -> Result<(), Stop<NetFault>>
+    ensures fault { StopsAt result (double_fault (if is_among name.now (names_of seen.old) then Some name.now else None)) }
+    ensures added { OnOk result (names_of seen.new ≡ names_of seen.old ++ name.now ∷ []) }
+{
+    if seen.add(alloc, name.bytes(), 0)? {
+        return Ok(());
+    }
+    let double = Name::from_bytes(alloc, name.bytes())?;
+    Err(Stop::Fault(NetFault::DoubleName(double)))
+}
+
+/// Sees the names of the wires in order.
+fn see_wires(alloc: Global, seen: &mut NameTable, wires: &[Wire]) -> Result<(), Stop<NetFault>>
+    ensures fault { StopsAt result (double_fault (first_repeat (names_of seen.old) (wire_names wires.now))) }
+    ensures added { OnOk result (names_of seen.new ≡ names_of seen.old ++ wire_names wires.now) }
+{
+    for wire in wires {
+        see(alloc, seen, &wire.name)?;
+    }
+    Ok(())
+}
+
+/// Tests that no connection of an instance names an earlier one's pin.
+fn see_pins(alloc: Global, pins: &[Pin]) -> Result<(), Stop<NetFault>>
+    ensures { StopsAt result (double_fault (first_repeat [] (pin_names pins.now))) }
+{
+    let mut seen = NameTable::new(alloc);
+    for pin in pins {
+        see(alloc, &mut seen, &pin.name)?;
+    }
+    Ok(())
+}
+
+/// Sees the names of the instances in order, and each one's pins on their own.
+fn see_insts(alloc: Global, seen: &mut NameTable, insts: &[Inst]) -> Result<(), Stop<NetFault>>
+    ensures { StopsAt result (double_fault (first_double_in_insts (names_of seen.old) insts.now)) }
+{
+    for inst in insts {
+        see(alloc, seen, &inst.name)?;
+        see_pins(alloc, inst.pins.as_slice())?;
+    }
+    Ok(())
+}
+
+/// Tests that no two wires or instances share a name and that no instance names a pin twice.
+pub(crate) fn test_names(
+    alloc: Global,
+    wires: &[Wire],
+    insts: &[Inst],
+) -> Result<(), Stop<NetFault>>
+    ensures { StopsAt result (double_fault (first_double_name (design [] [] wires.now insts.now []))) }
+{
+    let mut seen = NameTable::new(alloc);
+    see_wires(alloc, &mut seen, wires)?;
+    see_insts(alloc, &mut seen, insts)
+}

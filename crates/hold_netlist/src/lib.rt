@@ -1,0 +1,24 @@
+//! The netlist: a flat module of ports, wires, instances and assignments of single bits; what makes it
+//! valid; and its canonical Verilog text, as definitions that every reader and writer speaks of.
+#![tactic(auto)]
+
+mod copy;
+mod doubles;
+mod fault;
+mod first_pins;
+mod inst;
+mod kind;
+mod limits;
+mod name_table;
+mod netlist;
+mod same;
+#[cfg(test)]
+mod tests;
+mod wire;
+
+pub use fault::NetFault;
+pub use inst::{Assign, Inst, Pin, Source};
+pub use kind::Kind;
+pub use name_table::NameTable;
+pub use netlist::Netlist;
+pub use wire::{Direction, Port, Wire};
