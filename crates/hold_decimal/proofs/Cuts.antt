@@ -1,12 +1,14 @@
 -- Cuts: the one way in which a text falls into the parts of a number.
-use Rattle.std.proofs.Common.{◌≡◌, ℕ, suc, zero, ◌+◌, ◌-◌, ◌*◌, ◌<◌, ◌≤◌, ◌⊎◌, Bool, true, false, cond, ◌≢◌, List, [], ◌∷◌, ◌++◌, length, take, drop, refl, ap, sym, subst, ◌∙◌, arith, take-append-drop, inl, inr, add-one}
+use Rattle.std.proofs.Common.{◌≡◌, ℕ, suc, zero, ◌+◌, ◌-◌, ◌*◌, ◌^◌, ◌<◌, ◌≤◌, ◌⊎◌, Bool, true, false, cond, min, Option, Some, None, ◌≢◌, List, [], ◌∷◌, ◌++◌, length, take, drop, refl, ap, sym, subst, ◌∙◌, arith, take-append-drop, append-nil, inl, inr, add-one}
+use Rattle.std.proofs.lemmas.List.{take_all}
 use Rattle.std.proofs.Math.Seq.{take-append_seam, drop-append_seam}
 use Rattle.std.proofs.lemmas.Bool.{eqb-true, eq-eqb}
 use Rattle.std.proofs.lemmas.Bool.Decides.{nat_tests}
 use Rattle.std.specs.Char.{is_ascii_digit}
-use Rattle.std.specs.Prelude.{◌==◌, ◌||◌, if◌then◌else◌}
+use Rattle.std.specs.Prelude.{IfNone, ◌==◌, ◌||◌, if◌then◌else◌}
+use Rattle.hold_decimal.proofs.Digits.{ten-mono, number_of-below}
 use Rattle.hold_decimal.specs.Numeral.{AllDigits, number_of, IsSign, IsPoint, IsPower, IsExponent, Numeral, Spells}
-use Rattle.hold_decimal.specs.Reading.{leading, begins_with, after_sign, part_of, after_part}
+use Rattle.hold_decimal.specs.Reading.{leading, front_digits, after_digits, begins_with, after_sign, part_of, after_part}
 
 is_digit : (b : ℕ) → 48 ≤ b → b ≤ 57 → is_ascii_digit b ≡ true
 is_digit b low high = grind (arith, nat_tests)
@@ -31,6 +33,21 @@ leading-digits (x ∷ xs) = by_first (leading-digits xs) (is_ascii_digit x) refl
 pub leading-append : (ds xs : List ℕ) → AllDigits ds → leading (ds ++ xs) ≡ length ds + leading xs
 leading-append [] xs d = omega arith
 leading-append (b ∷ ds) xs d = rw (is_digit b d.0 d.1) (omega (arith, leading-append ds xs d.2))
+
+pub leading_within : (xs : List ℕ) → leading xs ≤ length xs
+leading_within [] = omega arith
+leading_within (x ∷ xs) = by_first (leading_within xs) (is_ascii_digit x)
+    where
+      by_first : leading xs ≤ length xs → (b : Bool) → (if b then leading xs + 1 else 0) ≤ suc (length xs)
+      by_first rest true = omega arith
+      by_first rest false = omega arith
+
+-- all are digits where all are counted
+pub all_from_leading : (xs : List ℕ) → leading xs ≡ length xs → AllDigits xs
+all_from_leading xs e = let h = leading-digits xs in subst AllDigits (ap (λ n. take n xs) e ∙ take_all (length xs) xs (omega arith)) h
+
+pub leading_from_all : (xs : List ℕ) → AllDigits xs → leading xs ≡ length xs
+leading_from_all xs d = sym (ap leading (append-nil xs)) ∙ leading-append xs [] d ∙ omega arith
 
 -- the sign in front, if there is one
 abbrev sign_text : List ℕ → List ℕ
@@ -128,10 +145,10 @@ digits_without_sign (b ∷ digits) d = ((λ e. absurd (omega arith)), (λ e. abs
 
 -- how the reader cuts a text
 abbrev pub whole_of : List ℕ → List ℕ
-whole_of text = take (leading (after_sign text)) (after_sign text)
+whole_of text = front_digits (after_sign text)
 
 abbrev pub after_whole : List ℕ → List ℕ
-after_whole text = drop (leading (after_sign text)) (after_sign text)
+after_whole text = after_digits (after_sign text)
 
 -- the numeral has the parts that the reader cuts out
 pub record IsReading (text : List ℕ) (n : Numeral) : Type 0 where
@@ -258,3 +275,49 @@ numeral-one text n m s t =
       raise = powers.0 i;
       lower = powers.1 i;
     }
+
+-- no number has no digit
+pub no_digits : (text : List ℕ) → whole_of text ≡ [] → part_of (after_whole text) ≡ [] → (n : Numeral) → Spells text n → ⊥
+no_digits text whole part n s =
+    let r = reading-spelled text n s in
+    let none : 1 ≤ 0 = subst (λ k. 1 ≤ k) (λ i. length ((r.whole ∙ whole) i) + length ((r.part ∙ part) i)) s.some_digit in
+    absurd (omega arith)
+
+-- no number has another exponent
+pub no_exponent : (text : List ℕ) → ((raise lower : ℕ) → IsExponent (after_part (after_whole text)) raise lower → ⊥) → (n : Numeral) → Spells text n → ⊥
+no_exponent text none n s = none n.raise n.lower (reading-spelled text n s).powered
+
+-- three digits write less than 1000
+pub number_of-three : (digits : List ℕ) → AllDigits digits → length digits ≤ 3 → number_of digits ≤ 999
+number_of-three digits d short = let bound : 10 ^ length digits ≤ 10 ^ 3 = ten-mono (length digits) 3 short in omega (arith, number_of-below digits d)
+
+-- what stands behind the first byte is no power, so the text is no exponent
+pub no_power : {A : Type 0} (text : List ℕ) (r : Option A) → 1 ≤ length text → IfNone r ((raise lower : ℕ) → IsPower (take (length text - 1) (drop 1 text)) raise lower → ⊥) → IfNone r ((raise lower : ℕ) → IsExponent text raise lower → ⊥)
+no_power text (Some x) some h = tt
+no_power [] None some h = absurd (omega arith)
+no_power (b ∷ bs) None some h = λ raise lower e. h raise lower (subst (λ t. IsPower t raise lower) (sym (take_all (suc (length bs) - 1) bs (omega arith))) e.1)
+
+-- a count of up to three digits stays below the limit
+pub small_count : (digits : List ℕ) (n : ℕ) → AllDigits digits → length digits ≤ 3 → n ≡ min (0 * 10 ^ length digits + number_of digits) 10000000001 → (n ≡ number_of digits) × (n ≤ 999)
+small_count digits n d short e =
+    let bound = number_of-three digits d short in
+    (omega arith, omega arith)
+
+-- the power of a short number behind a minus, and of one behind none
+pub power-below : (text digits : List ℕ) (n : ℕ) → digits ≡ after_sign text → AllDigits digits × (1 ≤ length digits) × (length digits ≤ 3) → begins_with 45 text ≡ true → n ≡ number_of digits → IsPower text 0 n
+power-below text digits n cut short minus size = power-reading text 0 n (record {
+  raised = sym (ap (λ b. if b then 0 else number_of (after_sign text)) minus);
+  lowered = size ∙ ap number_of cut ∙ sym (ap (λ b. if b then number_of (after_sign text) else 0) minus);
+  all_digits = subst AllDigits cut short.0;
+  one = subst (λ d. 1 ≤ length d) cut short.1;
+  three = subst (λ d. length d ≤ 3) cut short.2;
+})
+
+pub power-above : (text digits : List ℕ) (n : ℕ) → digits ≡ after_sign text → AllDigits digits × (1 ≤ length digits) × (length digits ≤ 3) → begins_with 45 text ≡ false → n ≡ number_of digits → IsPower text n 0
+power-above text digits n cut short plus size = power-reading text n 0 (record {
+  raised = size ∙ ap number_of cut ∙ sym (ap (λ b. if b then 0 else number_of (after_sign text)) plus);
+  lowered = sym (ap (λ b. if b then number_of (after_sign text) else 0) plus);
+  all_digits = subst AllDigits cut short.0;
+  one = subst (λ d. 1 ≤ length d) cut short.1;
+  three = subst (λ d. length d ≤ 3) cut short.2;
+})
