@@ -1,5 +1,5 @@
 -- Bounds: the whole numbers beside a number of digits, from the digits that are kept and those that are lost.
-use Rattle.std.proofs.Common.{◌≡◌, ◌≢◌, ℕ, suc, zero, ◌+◌, ◌-◌, ◌*◌, ◌^◌, ◌<◌, ◌≤◌, ◌⊎◌, ◌↔◌, min, Bool, true, false, Option, Some, None, IsTrue, IfSome, IfNone, List, [], ◌∷◌, ◌++◌, length, refl, ap, sym, subst, ◌∙◌, arith, inl, inr}
+use Rattle.std.proofs.Common.{◌≡◌, ◌≢◌, ℕ, suc, zero, ◌+◌, ◌-◌, ◌*◌, ◌^◌, ◌<◌, ◌≤◌, ◌↔◌, min, Bool, true, false, Option, Some, None, IsTrue, IfSome, IfNone, List, [], length, refl, ap, sym, subst, ◌∙◌, arith, inl, inr}
 use Rattle.std.proofs.Math.Nat.{mul-le-mul}
 use Rattle.std.proofs.lemmas.Bool.{false≢true}
 use Rattle.std.specs.Prelude.{if◌then◌else◌}
@@ -20,11 +20,12 @@ pub parted_off : (all front back : List ℕ) (up down : ℕ) → AllDigits back 
 parted_off all front back up down digits cut =
     subst (λ l. IsParted (number_of l * 10 ^ up) (10 ^ down) (number_of front * 10 ^ (up - down)) (number_of back * 10 ^ up)) cut.joined
     (parted front back up down digits cut.short (elim cut.most [
-        inl most ↦ ap (λ n. number_of front * 10 ^ n) most
-      | inr none ↦ nothing none (10 ^ length back) ∙ sym (nothing none (10 ^ (down - up))) ]))
-    where
-      nothing : front ≡ [] → (n : ℕ) → number_of front * n ≡ 0
-      nothing none n = ap (λ l. number_of l * n) none ∙ omega arith
+      | inl most ↦ ap (λ n. number_of front * 10 ^ n) most
+      | inr none ↦ nothing none (10 ^ length back) ∙ sym (nothing none (10 ^ (down - up)))
+    ]))
+  where
+    nothing : front ≡ [] → (n : ℕ) → number_of front * n ≡ 0
+    nothing none n = ap (λ l. number_of l * n) none ∙ omega arith
 
 -- nothing is lost where the digits that are lost write 0
 pub lost-zero : (back up : ℕ) → back * 10 ^ up ≡ 0 → back ≡ 0

@@ -1,5 +1,5 @@
 -- Cuts: the one way in which a text falls into the parts of a number.
-use Rattle.std.proofs.Common.{◌≡◌, ℕ, suc, zero, ◌+◌, ◌-◌, ◌*◌, ◌^◌, ◌<◌, ◌≤◌, ◌⊎◌, Bool, true, false, cond, min, Option, Some, None, ◌≢◌, List, [], ◌∷◌, ◌++◌, length, take, drop, refl, ap, sym, subst, ◌∙◌, arith, take-append-drop, append-nil, inl, inr, add-one}
+use Rattle.std.proofs.Common.{◌≡◌, ℕ, suc, ◌+◌, ◌-◌, ◌*◌, ◌^◌, ◌<◌, ◌≤◌, ◌⊎◌, Bool, true, false, min, Option, Some, None, ◌≢◌, List, [], ◌∷◌, ◌++◌, length, take, drop, refl, ap, sym, subst, ◌∙◌, arith, take-append-drop, append-nil, inl, inr, add-one}
 use Rattle.std.proofs.lemmas.List.{take_all}
 use Rattle.std.proofs.Math.Seq.{take-append_seam, drop-append_seam}
 use Rattle.std.proofs.lemmas.Bool.{eqb-true, eq-eqb}
@@ -24,10 +24,10 @@ not_digit b (inr high) = grind (arith, nat_tests)
 pub leading-digits : (xs : List ℕ) → AllDigits (take (leading xs) xs)
 leading-digits [] = tt
 leading-digits (x ∷ xs) = by_first (leading-digits xs) (is_ascii_digit x) refl
-    where
-      by_first : AllDigits (take (leading xs) xs) → (b : Bool) → is_ascii_digit x ≡ b → AllDigits (take (if b then leading xs + 1 else 0) (x ∷ xs))
-      by_first rest true e = rw add-one ((digit-is x e).0, (digit-is x e).1, rest)
-      by_first rest false e = tt
+  where
+    by_first : AllDigits (take (leading xs) xs) → (b : Bool) → is_ascii_digit x ≡ b → AllDigits (take (if b then leading xs + 1 else 0) (x ∷ xs))
+    by_first rest true e = rw add-one ((digit-is x e).0, (digit-is x e).1, rest)
+    by_first rest false e = tt
 
 -- digits in front are counted all
 pub leading-append : (ds xs : List ℕ) → AllDigits ds → leading (ds ++ xs) ≡ length ds + leading xs
@@ -37,10 +37,10 @@ leading-append (b ∷ ds) xs d = rw (is_digit b d.0 d.1) (omega (arith, leading-
 pub leading_within : (xs : List ℕ) → leading xs ≤ length xs
 leading_within [] = omega arith
 leading_within (x ∷ xs) = by_first (leading_within xs) (is_ascii_digit x)
-    where
-      by_first : leading xs ≤ length xs → (b : Bool) → (if b then leading xs + 1 else 0) ≤ suc (length xs)
-      by_first rest true = omega arith
-      by_first rest false = omega arith
+  where
+    by_first : leading xs ≤ length xs → (b : Bool) → (if b then leading xs + 1 else 0) ≤ suc (length xs)
+    by_first rest true = omega arith
+    by_first rest false = omega arith
 
 -- all are digits where all are counted
 pub all_from_leading : (xs : List ℕ) → leading xs ≡ length xs → AllDigits xs
@@ -61,12 +61,12 @@ sign_text-after_sign (b ∷ bs) = grind (arith, nat_tests)
 IsSign-sign_text : (text : List ℕ) → IsSign (sign_text text) (begins_with 45 text)
 IsSign-sign_text [] = refl
 IsSign-sign_text (b ∷ bs) = by_sign (b == 43) (b == 45) refl refl
-    where
-      by_sign : (p m : Bool) → (b == 43) ≡ p → (b == 45) ≡ m → IsSign (if p || m then b ∷ [] else []) m
-      by_sign true true e f = absurd (omega (arith, eqb-true b 43 e, eqb-true b 45 f))
-      by_sign true false e f = inl (eqb-true b 43 e, refl)
-      by_sign false true e f = inr (eqb-true b 45 f, refl)
-      by_sign false false e f = refl
+  where
+    by_sign : (p m : Bool) → (b == 43) ≡ p → (b == 45) ≡ m → IsSign (if p || m then b ∷ [] else []) m
+    by_sign true true e f = absurd (omega (arith, eqb-true b 43 e, eqb-true b 45 f))
+    by_sign true false e f = inl (eqb-true b 43 e, refl)
+    by_sign false true e f = inr (eqb-true b 45 f, refl)
+    by_sign false false e f = refl
 
 -- no sign stands first
 abbrev pub BeginsWithoutSign : List ℕ → Type 0
@@ -182,26 +182,26 @@ point_text (b ∷ bs) = if b == 46 then b ∷ [] else []
 point_text-parts : (text : List ℕ) → text ≡ point_text text ++ (part_of text ++ after_part text)
 point_text-parts [] = refl
 point_text-parts (b ∷ bs) = by_point (b == 46)
-    where
-      by_point : (p : Bool) → b ∷ bs ≡ (if p then b ∷ [] else []) ++ ((if p then take (leading bs) bs else []) ++ (if p then drop (leading bs) bs else b ∷ bs))
-      by_point true = ap (λ l. b ∷ l) (sym (take-append-drop (leading bs) bs))
-      by_point false = refl
+  where
+    by_point : (p : Bool) → b ∷ bs ≡ (if p then b ∷ [] else []) ++ ((if p then take (leading bs) bs else []) ++ (if p then drop (leading bs) bs else b ∷ bs))
+    by_point true = ap (λ l. b ∷ l) (sym (take-append-drop (leading bs) bs))
+    by_point false = refl
 
 IsPoint-point_text : (text : List ℕ) → IsPoint (point_text text) (part_of text)
 IsPoint-point_text [] = refl
 IsPoint-point_text (b ∷ bs) = by_point (b == 46) refl
-    where
-      by_point : (p : Bool) → (b == 46) ≡ p → IsPoint (if p then b ∷ [] else []) (if p then take (leading bs) bs else [])
-      by_point true e = eqb-true b 46 e
-      by_point false e = refl
+  where
+    by_point : (p : Bool) → (b == 46) ≡ p → IsPoint (if p then b ∷ [] else []) (if p then take (leading bs) bs else [])
+    by_point true e = eqb-true b 46 e
+    by_point false e = refl
 
 AllDigits-part_of : (text : List ℕ) → AllDigits (part_of text)
 AllDigits-part_of [] = tt
 AllDigits-part_of (b ∷ bs) = by_point (b == 46)
-    where
-      by_point : (p : Bool) → AllDigits (if p then take (leading bs) bs else [])
-      by_point true = leading-digits bs
-      by_point false = tt
+  where
+    by_point : (p : Bool) → AllDigits (if p then take (leading bs) bs else [])
+    by_point true = leading-digits bs
+    by_point false = tt
 
 -- and a numeral of those parts is in the grammar
 pub spelled-reading : (text : List ℕ) (n : Numeral) → IsReading text n → 1 ≤ length n.whole + length n.part → Spells text n

@@ -1,5 +1,5 @@
 -- Digits: what lists of them are worth, counted up to a cap and cut in two.
-use Rattle.std.proofs.Common.{◌≡◌, ℕ, suc, zero, ◌+◌, ◌-◌, ◌*◌, ◌^◌, ◌<◌, ◌≤◌, ◌⊎◌, min, ◌≢◌, List, [], ◌∷◌, ◌++◌, length, take, drop, refl, ap, sym, subst, add-one, ◌∙◌, arith, length-append, length-take, length-drop, take-append-drop, inl, inr}
+use Rattle.std.proofs.Common.{◌≡◌, ℕ, suc, zero, ◌+◌, ◌-◌, ◌*◌, ◌^◌, ◌<◌, ◌≤◌, ◌⊎◌, min, ◌≢◌, List, [], ◌∷◌, ◌++◌, length, take, drop, ap, sym, subst, add-one, ◌∙◌, arith, length-append, inl, inr}
 use Rattle.std.proofs.Math.Nat.{pow-suc, mul-le-mul, mul-le-mul_right, mul-le-mul_left, mul-lt-mul_of_pos_right}
 use Rattle.std.proofs.lemmas.Nat.{pow-add}
 use Rattle.std.proofs.lemmas.Bool.{cases_lt}
@@ -47,15 +47,15 @@ AllDigits-drop (suc n) (x ∷ xs) d = AllDigits-drop n xs d.2
 -- stopping a count at a limit before it grows changes nothing above
 pub capped : (count tens rest limit : ℕ) → 0 < tens → min (min count limit * tens + rest) limit ≡ min (count * tens + rest) limit
 capped count tens rest limit above = capped_by count tens rest limit above (cases_lt count limit)
-    where
-      capped_by : (count tens rest limit : ℕ) → 0 < tens → (count < limit) ⊎ (limit ≤ count) → min (min count limit * tens + rest) limit ≡ min (count * tens + rest) limit
-      capped_by count tens rest limit above (inl less) = let e : min count limit ≡ count = omega arith in ap (λ x. min (x * tens + rest) limit) e
-      capped_by count tens rest limit above (inr more) =
-          let e : min count limit ≡ limit = omega arith in
-          let high : limit * 1 ≤ limit * tens = mul-le-mul_left limit above in
-          let first : min (limit * tens + rest) limit ≡ limit = omega arith in
-          let second : min (count * tens + rest) limit ≡ limit = omega (arith, mul-le-mul_right tens more) in
-          ap (λ x. min (x * tens + rest) limit) e ∙ first ∙ sym second
+  where
+    capped_by : (count tens rest limit : ℕ) → 0 < tens → (count < limit) ⊎ (limit ≤ count) → min (min count limit * tens + rest) limit ≡ min (count * tens + rest) limit
+    capped_by count tens rest limit above (inl less) = let e : min count limit ≡ count = omega arith in ap (λ x. min (x * tens + rest) limit) e
+    capped_by count tens rest limit above (inr more) =
+        let e : min count limit ≡ limit = omega arith in
+        let high : limit * 1 ≤ limit * tens = mul-le-mul_left limit above in
+        let first : min (limit * tens + rest) limit ≡ limit = omega arith in
+        let second : min (count * tens + rest) limit ≡ limit = omega (arith, mul-le-mul_right tens more) in
+        ap (λ x. min (x * tens + rest) limit) e ∙ first ∙ sym second
 
 -- one digit more, where the count stops at a limit
 pub capped_digit : (count digit more rest limit : ℕ) → min (min (count * 10 + digit) limit * 10 ^ more + rest) limit ≡ min (count * 10 ^ suc more + (digit * 10 ^ more + rest)) limit
@@ -85,24 +85,24 @@ sum_more all front back tens raised up down cut is_one split =
 pub parted : (front back : List ℕ) (up down : ℕ) → AllDigits back → length back ≤ down - up → number_of front * 10 ^ length back ≡ number_of front * 10 ^ (down - up) →
     IsParted (number_of (front ++ back) * 10 ^ up) (10 ^ down) (number_of front * 10 ^ (up - down)) (number_of back * 10 ^ up)
 parted front back up down digits short same = parted_by (cases_lt up down)
-    where
-      parted_by : (up < down) ⊎ (down ≤ up) → IsParted (number_of (front ++ back) * 10 ^ up) (10 ^ down) (number_of front * 10 ^ (up - down)) (number_of back * 10 ^ up)
-      parted_by (inl less) =
-          let no_raised : 10 ^ (up - down) ≡ 1 = ap (λ n. 10 ^ n) (let e : up - down ≡ 0 = omega arith in e) in
-          let split = ten-split up down (omega arith) in
-          let small : number_of back < 10 ^ (down - up) = omega (arith, number_of-below back digits, ten-mono (length back) (down - up) short) in
-          record {
-            sum = sum_less (number_of (front ++ back)) (number_of front) (number_of back) (10 ^ length back) (10 ^ (down - up)) (10 ^ up) (10 ^ down) (10 ^ (up - down)) (number_of-append front back) same split no_raised;
-            below = omega (arith, split, mul-lt-mul_of_pos_right small (ten-pos up));
-          }
-      parted_by (inr more) =
-          let split = ten-split down up more in
-          let none : 10 ^ length back ≡ 1 = ap (λ n. 10 ^ n) (let e : length back ≡ 0 = omega arith in e) in
-          let nothing : number_of back ≡ 0 = omega (arith, number_of-below back digits) in
-          record {
-            sum = sum_more (number_of (front ++ back)) (number_of front) (number_of back) (10 ^ length back) (10 ^ (up - down)) (10 ^ up) (10 ^ down) (number_of-append front back) none split;
-            below = subst (λ x. x * 10 ^ up < 10 ^ down) (sym nothing) (omega (arith, ten-pos down));
-          }
+  where
+    parted_by : (up < down) ⊎ (down ≤ up) → IsParted (number_of (front ++ back) * 10 ^ up) (10 ^ down) (number_of front * 10 ^ (up - down)) (number_of back * 10 ^ up)
+    parted_by (inl less) =
+        let no_raised : 10 ^ (up - down) ≡ 1 = ap (λ n. 10 ^ n) (let e : up - down ≡ 0 = omega arith in e) in
+        let split = ten-split up down (omega arith) in
+        let small : number_of back < 10 ^ (down - up) = omega (arith, number_of-below back digits, ten-mono (length back) (down - up) short) in
+        record {
+          sum = sum_less (number_of (front ++ back)) (number_of front) (number_of back) (10 ^ length back) (10 ^ (down - up)) (10 ^ up) (10 ^ down) (10 ^ (up - down)) (number_of-append front back) same split no_raised;
+          below = omega (arith, split, mul-lt-mul_of_pos_right small (ten-pos up));
+        }
+    parted_by (inr more) =
+        let split = ten-split down up more in
+        let none : 10 ^ length back ≡ 1 = ap (λ n. 10 ^ n) (let e : length back ≡ 0 = omega arith in e) in
+        let nothing : number_of back ≡ 0 = omega (arith, number_of-below back digits) in
+        record {
+          sum = sum_more (number_of (front ++ back)) (number_of front) (number_of back) (10 ^ length back) (10 ^ (up - down)) (10 ^ up) (10 ^ down) (number_of-append front back) none split;
+          below = subst (λ x. x * 10 ^ up < 10 ^ down) (sym nothing) (omega (arith, ten-pos down));
+        }
 
 -- a first digit other than 0 counts
 pub not_zero : (b : ℕ) (bs : List ℕ) → 48 ≤ b → b ≢ 48 → number_of (b ∷ bs) ≢ 0
@@ -122,8 +122,8 @@ capped_zero first count raised limit e =
 pub capped_all : (whole part : List ℕ) (raised limit : ℕ) → min (min (min (0 * 10 ^ length whole + number_of whole) limit * 10 ^ length part + number_of part) limit * 10 ^ raised) limit ≡ min (number_of (whole ++ part) * 10 ^ raised) limit
 capped_all whole part raised limit =
     let first : min (min (0 * 10 ^ length whole + number_of whole) limit * 10 ^ length part + number_of part) limit ≡ min (number_of (whole ++ part)) limit =
-        capped (0 * 10 ^ length whole + number_of whole) (10 ^ length part) (number_of part) limit (ten-pos (length part))
-        ∙ ap (λ x. min x limit) (let one : (0 * 10 ^ length whole + number_of whole) * 10 ^ length part + number_of part ≡ number_of (whole ++ part) = omega (arith, number_of-append whole part) in one)
+    capped (0 * 10 ^ length whole + number_of whole) (10 ^ length part) (number_of part) limit (ten-pos (length part))
+    ∙ ap (λ x. min x limit) (let one : (0 * 10 ^ length whole + number_of whole) * 10 ^ length part + number_of part ≡ number_of (whole ++ part) = omega (arith, number_of-append whole part) in one)
     in
     ap (λ x. min (x * 10 ^ raised) limit) first
     ∙ ap (λ x. min x limit) (let one : min (number_of (whole ++ part)) limit * 10 ^ raised ≡ min (number_of (whole ++ part)) limit * 10 ^ raised + 0 = omega arith in one)

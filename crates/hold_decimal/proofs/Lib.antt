@@ -1,5 +1,4 @@
 pub mod Bounds
-pub mod CutOff
 pub mod Cuts
 pub mod Digits
 pub mod Signs

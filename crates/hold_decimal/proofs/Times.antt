@@ -1,10 +1,10 @@
 -- Times: what the bounds of a magnitude say of a number's text, and that a text has one time.
-use Rattle.std.proofs.Common.{◌≡◌, ◌≢◌, ℕ, suc, zero, ◌+◌, ◌*◌, ◌^◌, ◌<◌, ◌≤◌, ◌⊎◌, Bool, true, false, List, length, refl, ap, sym, subst, ◌∙◌, arith, inl, inr}
-use Rattle.std.specs.Prelude.{ℤ, pos, negsuc, neg_ℤ, if◌then◌else◌, unsigned_abs}
+use Rattle.std.proofs.Common.{◌≡◌, ℕ, suc, zero, ◌+◌, ◌*◌, ◌^◌, ◌<◌, ◌≤◌, Bool, true, false, List, length, refl, sym, subst, arith, inl, inr}
+use Rattle.std.specs.Prelude.{pos, neg_ℤ, if◌then◌else◌, unsigned_abs}
 use Rattle.hold_base.specs.declared.time.Interval.{Interval}
 use Rattle.hold_decimal.specs.Numeral.{Numeral, Spells}
 use Rattle.hold_decimal.specs.Reading.{IsOutward}
-use Rattle.hold_decimal.specs.Rounding.{Fraction, signed_fraction, digits_of, fraction_of, IsFloor, IsCeiling, IsBeyond, PassesLimit, IsTime}
+use Rattle.hold_decimal.specs.Rounding.{signed_fraction, digits_of, fraction_of, IsFloor, IsCeiling, PassesLimit, IsTime}
 use Rattle.hold_decimal.proofs.Cuts.{numeral-one}
 use Rattle.hold_decimal.proofs.Signs.{floor_above, ceiling_above, floor_below, ceiling_below, floor-one, ceiling-one}
 

@@ -10,7 +10,7 @@
 -- IsExponent text raise lower: nothing, or an `e` or `E` and a power.
 -- Spells text n: the text is n's sign, the digits before the point, the point, the digits after it and the exponent, with at
 --   least one digit beside the point; `.` and the empty text spell nothing.
-use Rattle.std.specs.Prelude.{◌≡◌, ℕ, ◌+◌, ◌-◌, ◌*◌, ◌^◌, ◌<◌, ◌≤◌, ◌⊎◌, Bool, true, false, if◌then◌else◌, List, [], ◌∷◌, ◌++◌, length}
+use Rattle.std.specs.Prelude.{◌≡◌, ℕ, ◌+◌, ◌-◌, ◌*◌, ◌^◌, ◌≤◌, ◌⊎◌, Bool, true, false, if◌then◌else◌, List, [], ◌∷◌, ◌++◌, length}
 
 -- each byte is a decimal digit
 abbrev pub AllDigits : List ℕ → Type 0

@@ -7,7 +7,7 @@
 -- IsBeyond n: n passes 10 ^ 10 in magnitude; 10 ^ 10 itself doesn't, on either side.
 -- PassesLimit f: the floor or the ceiling of f does.
 -- IsTime text scale i: the text spells a number whose value lies in i, each end the nearest whole number outward and none beyond the limit.
-use Rattle.std.specs.Prelude.{◌≡◌, ℕ, ◌+◌, ◌*◌, ◌^◌, ◌<◌, ◌≤◌, ◌⊎◌, Bool, if◌then◌else◌, List, ◌++◌, length, ℤ, pos, neg_ℤ, ◌+ℤ◌, ◌-ℤ◌, ◌*ℤ◌, ◌≤ℤ◌, ◌<ℤ◌, unsigned_abs}
+use Rattle.std.specs.Prelude.{ℕ, ◌+◌, ◌*◌, ◌^◌, ◌<◌, ◌≤◌, ◌⊎◌, Bool, if◌then◌else◌, List, ◌++◌, length, ℤ, pos, neg_ℤ, ◌+ℤ◌, ◌-ℤ◌, ◌*ℤ◌, ◌≤ℤ◌, ◌<ℤ◌, unsigned_abs}
 use Rattle.hold_base.specs.declared.time.Interval.{Interval}
 use Rattle.hold_decimal.specs.Numeral.{Numeral, Spells, number_of}
 
@@ -41,7 +41,7 @@ pub record IsCeiling (f : Fraction) (n : ℤ) : Type 0 where
 
 -- past 10 ^ 10 in magnitude
 abbrev pub IsBeyond : ℤ → Type 0
-IsBeyond n = 10000000000 < unsigned_abs n
+IsBeyond n = 10 ^ 10 < unsigned_abs n
 
 -- the floor or the ceiling is beyond the limit
 abbrev pub PassesLimit : Fraction → Type 0
@@ -53,5 +53,5 @@ pub record IsTime (text : List ℕ) (scale : ℕ) (i : Interval) : Type 0 where
   pub spelled : Spells text numeral
   pub floor : IsFloor (fraction_of numeral scale) i.least
   pub ceiling : IsCeiling (fraction_of numeral scale) i.greatest
-  pub least_within : unsigned_abs i.least ≤ 10000000000
-  pub greatest_within : unsigned_abs i.greatest ≤ 10000000000
+  pub least_within : unsigned_abs i.least ≤ 10 ^ 10
+  pub greatest_within : unsigned_abs i.greatest ≤ 10 ^ 10

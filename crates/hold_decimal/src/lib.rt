@@ -6,5 +6,5 @@ mod numeral;
 mod rounding;
 mod scale;
 
-pub use number::{to_fs, NumberFault};
+pub use number::{NumberFault, to_fs};
 pub use scale::Scale;

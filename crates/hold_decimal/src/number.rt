@@ -5,7 +5,7 @@ ghost use Rattle.hold_decimal.specs.Numeral.{Numeral, Spells};
 ghost use Rattle.hold_decimal.specs.Rounding.{fraction_of, IsFloor, IsCeiling, PassesLimit, IsTime};
 
 use crate::numeral::read_parts;
-use crate::rounding::{bounds_of, Bounds};
+use crate::rounding::{Bounds, LIMIT, bounds_of};
 use crate::scale::Scale;
 use hold_base::Interval;
 use thiserror::Error;
@@ -51,8 +51,8 @@ pub fn to_fs(number: &[u8], scale: Scale) -> Result<Interval, NumberFault>
 
 // Below 0 the ends change places.
 fn with_sign(negative: bool, bounds: Bounds) -> Interval
-    requires floor { bounds.floor ≤ 10000000000 }
-    requires ceiling { bounds.ceiling ≤ 10000000000 }
+    requires floor { bounds.floor ≤ LIMIT }
+    requires ceiling { bounds.ceiling ≤ LIMIT }
     ensures least { result.least ≡ (if negative then neg_ℤ (pos bounds.ceiling) else pos bounds.floor) }
     ensures ordered { IsOrdered result }
     ensures greatest { result.greatest ≡ (if negative then neg_ℤ (pos bounds.floor) else pos bounds.ceiling) }
@@ -60,8 +60,82 @@ fn with_sign(negative: bool, bounds: Bounds) -> Interval
     let floor = bounds.floor as i64;
     let ceiling = bounds.ceiling as i64;
     if negative {
-        Interval { least: -ceiling, greatest: -floor }
+        Interval {
+            least: -ceiling,
+            greatest: -floor,
+        }
     } else {
-        Interval { least: floor, greatest: ceiling }
+        Interval {
+            least: floor,
+            greatest: ceiling,
+        }
+    }
+}
+
+#[cfg(test)]
+mod tests {
+    use super::*;
+
+    fn between(least: i64, greatest: i64) -> Result<Interval, NumberFault> {
+        Ok(Interval { least, greatest })
+    }
+
+    #[test]
+    fn decimals(rt: HostRuntime) {
+        let nanosecond = Scale { exponent: 6 };
+        let rounded = [
+            (b"0.0123456".as_slice(), 12345, 12346),
+            (b"-0.0000001".as_slice(), -1, 0),
+            (b"1e4".as_slice(), 10_000_000_000, 10_000_000_000),
+            (b"-1e4".as_slice(), -10_000_000_000, -10_000_000_000),
+            (b"-0.0".as_slice(), 0, 0),
+            (b".5".as_slice(), 500_000, 500_000),
+            (b"5.".as_slice(), 5_000_000, 5_000_000),
+            (b"+5".as_slice(), 5_000_000, 5_000_000),
+            (b"-.5e+3".as_slice(), -500_000_000, -500_000_000),
+            (b"1.25E-6".as_slice(), 1, 2),
+            (b"1e-999".as_slice(), 0, 1),
+            (b"0e999".as_slice(), 0, 0),
+        ];
+        for (text, least, greatest) in rounded {
+            assert_eq!(rt; to_fs(text, nanosecond), between(least, greatest));
+        }
+    }
+
+    #[test]
+    fn texts_that_are_no_number_or_too_great(rt: HostRuntime) {
+        let nanosecond = Scale { exponent: 6 };
+        let refused = [
+            (b"1e5".as_slice(), NumberFault::Range),
+            (b"-10000.0000001".as_slice(), NumberFault::Range),
+            (b"1e999".as_slice(), NumberFault::Range),
+            (b"".as_slice(), NumberFault::Shape),
+            (b".".as_slice(), NumberFault::Shape),
+            (b"-".as_slice(), NumberFault::Shape),
+            (b"e3".as_slice(), NumberFault::Shape),
+            (b"1e".as_slice(), NumberFault::Shape),
+            (b"1e+".as_slice(), NumberFault::Shape),
+            (b"1e1234".as_slice(), NumberFault::Shape),
+            (b"--1".as_slice(), NumberFault::Shape),
+            (b"1.2.3".as_slice(), NumberFault::Shape),
+            (b"1 ".as_slice(), NumberFault::Shape),
+        ];
+        for (text, fault) in refused {
+            assert_eq!(rt; to_fs(text, nanosecond), Err(fault));
+        }
+    }
+
+    #[test]
+    fn a_thousand_digits(rt: HostRuntime) {
+        let mut text = [b'9'; 1005];
+        text[1000..].copy_from_slice(b"e-999");
+        assert_eq!(rt;
+            to_fs(&text, Scale { exponent: 6 }),
+            between(9_999_999, 10_000_000)
+        );
+        assert_eq!(rt;
+            to_fs(&text, Scale { exponent: 10 }),
+            Err(NumberFault::Range)
+        );
     }
 }

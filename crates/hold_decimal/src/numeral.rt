@@ -115,9 +115,15 @@ fn read_power(text: &[u8]) -> Option<Power>
     }
     let size = counted_on(0, digits) as usize;
     if is_negative(text) {
-        Some(Power { raise: 0, lower: size })
+        Some(Power {
+            raise: 0,
+            lower: size,
+        })
     } else {
-        Some(Power { raise: size, lower: 0 })
+        Some(Power {
+            raise: size,
+            lower: 0,
+        })
     }
 }
 

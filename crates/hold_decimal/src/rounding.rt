@@ -3,7 +3,7 @@ ghost use Rattle.hold_decimal.specs.Numeral.{AllDigits, number_of};
 ghost use Rattle.hold_decimal.specs.Reading.{IsCutOff, IsOutward};
 
 /// The greatest magnitude of a time, in fs.
-const LIMIT: u64 = 10_000_000_000;
+pub const LIMIT: u64 = 10_000_000_000;
 
 /// Where counting stops.
 const PAST_LIMIT: u64 = 10_000_000_001;
@@ -18,9 +18,9 @@ pub struct Bounds {
 
 /// The count, ten times for each digit and with the digits' number added, or one past the limit where it is more.
 pub fn counted_on(count: u64, digits: &[u8]) -> u64
-    requires within { count ≤ 10000000001 }
+    requires within { count ≤ PAST_LIMIT }
     requires digits { AllDigits digits.now }
-    ensures { result ≡ min (count * 10 ^ length digits.now + number_of digits.now) 10000000001 }
+    ensures { result ≡ min (count * 10 ^ length digits.now + number_of digits.now) PAST_LIMIT }
 {
     let mut count = count;
     for digit in digits {
@@ -32,8 +32,8 @@ pub fn counted_on(count: u64, digits: &[u8]) -> u64
 #[tactic(auto, using(crate::proofs::Digits::capped_zero))]
 // The count with zeros behind it, or one past the limit where it is more.
 fn with_zeros(count: u64, zeros: usize) -> u64
-    requires { count ≤ 10000000001 }
-    ensures { result ≡ min (count * 10 ^ zeros) 10000000001 }
+    requires { count ≤ PAST_LIMIT }
+    ensures { result ≡ min (count * 10 ^ zeros) PAST_LIMIT }
 {
     let mut count = count;
     for _zero in 0..zeros {
@@ -58,7 +58,7 @@ fn are_zeros(digits: &[u8]) -> bool
 fn floor_of(whole: &[u8], part: &[u8], zeros: usize) -> u64
     requires whole_digits { AllDigits whole.now }
     requires part_digits { AllDigits part.now }
-    ensures { result ≡ min (number_of (whole.now ++ part.now) * 10 ^ zeros) 10000000001 }
+    ensures { result ≡ min (number_of (whole.now ++ part.now) * 10 ^ zeros) PAST_LIMIT }
 {
     with_zeros(counted_on(counted_on(0, whole), part), zeros)
 }
@@ -105,11 +105,11 @@ fn loses_zeros(cut: &Cut) -> bool
 
 // A floor and the ceiling above it, which is the next number where the value isn't whole. None where that is past the limit.
 fn within_limit(floor: u64, is_whole: bool) -> Option<Bounds>
-    requires { floor ≤ 10000000001 }
+    requires { floor ≤ PAST_LIMIT }
     ensures floor { IfSome result (λ b. b.floor ≡ floor) }
     ensures ceiling { IfSome result (λ b. b.ceiling ≡ (if is_whole then floor else floor + 1)) }
-    ensures within { IfSome result (λ b. b.ceiling ≤ 10000000000) }
-    ensures none { IfNone result (10000000000 < (if is_whole then floor else floor + 1)) }
+    ensures within { IfSome result (λ b. b.ceiling ≤ LIMIT) }
+    ensures none { IfNone result (LIMIT < (if is_whole then floor else floor + 1)) }
 {
     let ceiling = if is_whole { floor } else { floor + 1 };
     if ceiling > LIMIT {
@@ -123,8 +123,8 @@ pub fn bounds_of(whole: &[u8], part: &[u8], up: usize, down: usize) -> Option<Bo
     requires whole_digits { AllDigits whole.now }
     requires part_digits { AllDigits part.now }
     ensures beside { IfSome result (λ b. IsOutward (number_of (whole.now ++ part.now) * 10 ^ up) (10 ^ down) b.floor b.ceiling) }
-    ensures within { IfSome result (λ b. b.ceiling ≤ 10000000000) }
-    ensures none { IfNone result ((floor ceiling : ℕ) × IsOutward (number_of (whole.now ++ part.now) * 10 ^ up) (10 ^ down) floor ceiling × (10000000000 < ceiling)) }
+    ensures within { IfSome result (λ b. b.ceiling ≤ LIMIT) }
+    ensures none { IfNone result ((floor ceiling : ℕ) × IsOutward (number_of (whole.now ++ part.now) * 10 ^ up) (10 ^ down) floor ceiling × (LIMIT < ceiling)) }
 {
     let cut = cut_off(whole, part, down.saturating_sub(up));
     let floor = floor_of(cut.whole, cut.part, up.saturating_sub(down));

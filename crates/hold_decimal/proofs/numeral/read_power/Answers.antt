@@ -1,6 +1,4 @@
-use Rattle.std.proofs.Common.{◌≡◌, ℕ, ◌≤◌, refl, length, ap, sym, ◌∙◌, subst, arith}
-use Rattle.hold_decimal.specs.Numeral.{AllDigits, number_of}
-use Rattle.hold_decimal.specs.Reading.{after_sign, begins_with}
+use Rattle.std.proofs.Common.{refl, sym, arith}
 use Rattle.hold_decimal.proofs.Cuts.{small_count, power-below, power-above}
 use Rattle.hold_decimal.proofs.numeral.read_power.Goals as goal
 

@@ -1,4 +1,4 @@
-use Rattle.std.proofs.Common.{◌≡◌, ℕ, drop}
+use Rattle.std.proofs.Common.{◌≡◌, drop}
 use Rattle.hold_decimal.specs.Numeral.{AllDigits, number_of}
 use Rattle.hold_decimal.proofs.rounding.are_zeros.Given as goal
 

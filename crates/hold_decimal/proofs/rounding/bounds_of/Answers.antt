@@ -1,4 +1,4 @@
-use Rattle.std.proofs.Common.{◌≡◌, ℕ, ◌*◌, ◌^◌, ◌++◌, min, ap, sym, subst, ◌∙◌, arith}
+use Rattle.std.proofs.Common.{◌*◌, ◌^◌, ◌++◌, min, ap, subst, ◌∙◌, arith}
 use Rattle.hold_decimal.specs.Numeral.{number_of}
 use Rattle.hold_decimal.specs.Reading.{IsCutOff}
 use Rattle.hold_decimal.proofs.Digits.{AllDigits-append}
@@ -15,10 +15,10 @@ returns-clause-beside c =
     let digits = AllDigits-append c.cut_off-cut.result.lost_whole.now c.cut_off-cut.result.lost_part.now c.cut_off-cut.ensures.lost_whole c.cut_off-cut.ensures.lost_part in
     let zeros = c.loses_zeros.ensures in
     bounds_beside _ _ _ _ c.floor_of-floor.result c.loses_zeros.result c.within_limit.result
-      (parted_off all front back c.args.up c.args.down digits cut)
-      (c.floor_of-floor.ensures ∙ ap (λ n. min (number_of front * 10 ^ n) 10000000001) c.saturating_sub-2.ensures)
-      ((λ t. ap (λ n. n * 10 ^ c.args.up) (zeros.0 t) ∙ omega arith), (λ e. zeros.1 (lost-zero (number_of back) c.args.up e)))
-      c.within_limit.ensures.floor c.within_limit.ensures.ceiling c.within_limit.ensures.within
+    (parted_off all front back c.args.up c.args.down digits cut)
+    (c.floor_of-floor.ensures ∙ ap (λ n. min (number_of front * 10 ^ n) 10000000001) c.saturating_sub-2.ensures)
+    ((λ t. ap (λ n. n * 10 ^ c.args.up) (zeros.0 t) ∙ omega arith), (λ e. zeros.1 (lost-zero (number_of back) c.args.up e)))
+    c.within_limit.ensures.floor c.within_limit.ensures.ceiling c.within_limit.ensures.within
 
 pub returns-clause-none : goal.returns-clause-none
 returns-clause-none c =
@@ -29,7 +29,7 @@ returns-clause-none c =
     let digits = AllDigits-append c.cut_off-cut.result.lost_whole.now c.cut_off-cut.result.lost_part.now c.cut_off-cut.ensures.lost_whole c.cut_off-cut.ensures.lost_part in
     let zeros = c.loses_zeros.ensures in
     bounds_none _ _ _ _ c.floor_of-floor.result c.loses_zeros.result c.within_limit.result
-      (parted_off all front back c.args.up c.args.down digits cut)
-      (c.floor_of-floor.ensures ∙ ap (λ n. min (number_of front * 10 ^ n) 10000000001) c.saturating_sub-2.ensures)
-      ((λ t. ap (λ n. n * 10 ^ c.args.up) (zeros.0 t) ∙ omega arith), (λ e. zeros.1 (lost-zero (number_of back) c.args.up e)))
-      c.within_limit.ensures.none
+    (parted_off all front back c.args.up c.args.down digits cut)
+    (c.floor_of-floor.ensures ∙ ap (λ n. min (number_of front * 10 ^ n) 10000000001) c.saturating_sub-2.ensures)
+    ((λ t. ap (λ n. n * 10 ^ c.args.up) (zeros.0 t) ∙ omega arith), (λ e. zeros.1 (lost-zero (number_of back) c.args.up e)))
+    c.within_limit.ensures.none

@@ -1,4 +1,4 @@
-use Rattle.std.proofs.Common.{◌≡◌, ℕ, suc, ◌+◌, ◌-◌, ◌*◌, ◌^◌, ◌≤◌, min, length, get_or, drop, sym, subst, ap, ◌∙◌, arith}
+use Rattle.std.proofs.Common.{◌≡◌, ◌+◌, ◌-◌, ◌*◌, ◌^◌, min, length, get_or, drop, sym, subst, ap, ◌∙◌, arith}
 use Rattle.std.proofs.lemmas.List.{drop_more}
 use Rattle.hold_decimal.specs.Numeral.{AllDigits, number_of}
 use Rattle.hold_decimal.proofs.Digits.{capped_digit}
@@ -17,7 +17,7 @@ loop-digit-preserved c =
       within = omega arith;
       digits_left = digits.2;
       same = ap (λ n. min (n * 10 ^ length left + number_of left) 10000000001) now
-        ∙ capped_digit c.loop-digit.count (first - 48) (length left) (number_of left) 10000000001
-        ∙ sym (ap (λ l. min (c.loop-digit.count * 10 ^ length l + number_of l) 10000000001) cons)
-        ∙ c.loop-digit.invariant.same;
+          ∙ capped_digit c.loop-digit.count (first - 48) (length left) (number_of left) 10000000001
+          ∙ sym (ap (λ l. min (c.loop-digit.count * 10 ^ length l + number_of l) 10000000001) cons)
+          ∙ c.loop-digit.invariant.same;
     }

@@ -1,4 +1,3 @@
-use Rattle.std.proofs.Common.{◌≡◌, ℕ, ap, ◌∙◌, sym, arith}
 use Rattle.hold_decimal.proofs.Digits.{capped_all}
 use Rattle.hold_decimal.proofs.rounding.floor_of.Goals as goal
 

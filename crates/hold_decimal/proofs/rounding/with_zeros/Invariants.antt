@@ -1,4 +1,4 @@
-use Rattle.std.proofs.Common.{◌≡◌, ℕ, ◌+◌, ◌*◌, ◌^◌, ◌≤◌, min}
+use Rattle.std.proofs.Common.{◌≡◌, ◌*◌, ◌^◌, ◌≤◌, min}
 use Rattle.hold_decimal.proofs.rounding.with_zeros.Given as goal
 
 abbrev pub invariant-loop-zero : goal.invariant-loop-zero
