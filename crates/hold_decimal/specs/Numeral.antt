@@ -12,7 +12,7 @@
 --   least one digit beside the point; `.` and the empty text spell nothing.
 use Rattle.std.specs.Prelude.{◌≡◌, ℕ, ◌+◌, ◌-◌, ◌*◌, ◌^◌, ◌≤◌, ◌⊎◌, Bool, true, false, if◌then◌else◌, List, [], ◌∷◌, ◌++◌, length}
 
--- each byte is a decimal digit
+-- each byte is one from '0' (48) to '9' (57)
 abbrev pub AllDigits : List ℕ → Type 0
 AllDigits [] = Unit {0}
 AllDigits (b ∷ bs) = (48 ≤ b) × (b ≤ 57) × AllDigits bs
@@ -30,13 +30,13 @@ pub record Numeral : Type 0 where
   pub raise : ℕ
   pub lower : ℕ
 
--- no sign, `+` or `-`
+-- no sign, '+' (43) or '-' (45)
 abbrev pub IsSign : List ℕ → Bool → Type 0
 IsSign [] negative = negative ≡ false
 IsSign (b ∷ []) negative = ((b ≡ 43) × (negative ≡ false)) ⊎ ((b ≡ 45) × (negative ≡ true))
 IsSign (b ∷ c ∷ more) negative = ⊥
 
--- `.`, or nothing where nothing stands after it
+-- '.' (46), or nothing where no digits stand after it
 abbrev pub IsPoint : List ℕ → List ℕ → Type 0
 IsPoint [] part = part ≡ []
 IsPoint (b ∷ []) part = b ≡ 46
@@ -55,7 +55,7 @@ pub record IsPower (text : List ℕ) (raise lower : ℕ) : Type 0 where
   pub raised : raise ≡ (if negative then 0 else number_of digits)
   pub lowered : lower ≡ (if negative then number_of digits else 0)
 
--- nothing, or `e` or `E` and a power
+-- nothing, or 'e' (101) or 'E' (69) and a power
 abbrev pub IsExponent : List ℕ → ℕ → ℕ → Type 0
 IsExponent [] raise lower = (raise ≡ 0) × (lower ≡ 0)
 IsExponent (b ∷ bs) raise lower = ((b ≡ 101) ⊎ (b ≡ 69)) × IsPower bs raise lower

@@ -29,17 +29,17 @@ abbrev pub begins_with : ℕ → List ℕ → Bool
 begins_with byte [] = false
 begins_with byte (b ∷ bs) = b == byte
 
--- what is behind a sign, or the whole text where there is none
+-- what is behind a '+' (43) or a '-' (45), or the whole text where there is none
 abbrev pub after_sign : List ℕ → List ℕ
 after_sign [] = []
 after_sign (b ∷ bs) = if b == 43 || b == 45 then bs else b ∷ bs
 
--- the digits behind a point
+-- the digits behind a '.' (46)
 abbrev pub part_of : List ℕ → List ℕ
 part_of [] = []
 part_of (b ∷ bs) = if b == 46 then front_digits bs else []
 
--- what is behind the point and its digits
+-- what is behind a '.' (46) and its digits
 abbrev pub after_part : List ℕ → List ℕ
 after_part [] = []
 after_part (b ∷ bs) = if b == 46 then after_digits bs else b ∷ bs

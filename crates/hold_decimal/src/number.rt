@@ -1,5 +1,5 @@
 ghost use Rattle.std.specs.Prelude.{◌≡◌, ◌≤◌, ◌↔◌, if◌then◌else◌, pos, neg_ℤ, IfOk};
-ghost use Rattle.hold_base.specs.declared.time.Interval.{Interval as Times};
+ghost use Rattle.hold_base.specs.declared.time.Interval.{Interval};
 ghost use Rattle.hold_base.specs.Interval.{IsOrdered};
 ghost use Rattle.hold_decimal.specs.Numeral.{Numeral, Spells};
 ghost use Rattle.hold_decimal.specs.Rounding.{fraction_of, IsFloor, IsCeiling, PassesLimit, IsTime};
@@ -21,9 +21,13 @@ pub enum NumberFault {
     Range,
 }
 
-/// The whole femtoseconds on both sides of a number in a unit: the floor of its exact value and the ceiling, which are one where
-/// the value is whole. The text is a sign or none, digits with at most one point and at least one digit, and
-/// an `e` or `E` with a sign or none and one to three digits, or none. It may be of any length.
+/// The whole femtoseconds on both sides of a number in a unit: the floor of its exact value and the ceiling,
+/// which are one where the value is whole. A number is a sign or none, digits with at most one point and
+/// at least one digit, and nothing more or an `e` or `E`, a sign or none and one to three digits. Its text
+/// may be of any length.
+///
+/// `Shape` comes where the text isn't a number, `Range` where the floor or the ceiling passes 10^10 in
+/// magnitude. Both are decided of the exact value: `1e-999` lies between 0 and 1, and `0e999` is 0.
 pub fn to_fs(number: &[u8], scale: Scale) -> Result<Interval, NumberFault>
     // The text spells no number.
     ensures shape { (result ≡ Err NumberFault.Shape) ↔ ((n : Numeral) → Spells number.now n → ⊥) }
@@ -34,9 +38,9 @@ pub fn to_fs(number: &[u8], scale: Scale) -> Result<Interval, NumberFault>
     ensures ceiling { IfOk result (λ i. (n : Numeral) → Spells number.now n → IsCeiling (fraction_of n scale.exponent) i.greatest) }
     ensures ordered { IfOk result (λ i. IsOrdered i) }
 
-    // The same as one fact, and that the only times of a text are given.
+    // The same as one fact, and that a text that has a time is given it.
     ensures time { IfOk result (λ i. IsTime number.now scale.exponent i) }
-    ensures only_time { (i : Times) → IsTime number.now scale.exponent i → result ≡ Ok i }
+    ensures only_time { (i : Interval) → IsTime number.now scale.exponent i → result ≡ Ok i }
 {
     let Some(parts) = read_parts(number) else {
         return Err(NumberFault::Shape);
@@ -54,8 +58,8 @@ fn with_sign(negative: bool, bounds: Bounds) -> Interval
     requires floor { bounds.floor ≤ LIMIT }
     requires ceiling { bounds.ceiling ≤ LIMIT }
     ensures least { result.least ≡ (if negative then neg_ℤ (pos bounds.ceiling) else pos bounds.floor) }
-    ensures ordered { IsOrdered result }
     ensures greatest { result.greatest ≡ (if negative then neg_ℤ (pos bounds.floor) else pos bounds.ceiling) }
+    ensures ordered { IsOrdered result }
 {
     let floor = bounds.floor as i64;
     let ceiling = bounds.ceiling as i64;

@@ -5,7 +5,7 @@ ghost use Rattle.hold_decimal.specs.Reading.{IsCutOff, IsOutward};
 /// The greatest magnitude of a time, in fs.
 pub const LIMIT: u64 = 10_000_000_000;
 
-/// Where counting stops.
+/// Where counting stops: what is past the limit is refused, whatever it is.
 const PAST_LIMIT: u64 = 10_000_000_001;
 
 /// The whole numbers beside a magnitude.
@@ -16,7 +16,7 @@ pub struct Bounds {
     ghost ordered: { floor ≤ ceiling },
 }
 
-/// The count, ten times for each digit and with the digits' number added, or one past the limit where it is more.
+/// The count, made ten times as great by each digit and the digit added, or one past the limit where that is more.
 pub fn counted_on(count: u64, digits: &[u8]) -> u64
     requires within { count ≤ PAST_LIMIT }
     requires digits { AllDigits digits.now }
@@ -29,8 +29,8 @@ pub fn counted_on(count: u64, digits: &[u8]) -> u64
     count
 }
 
-#[tactic(auto, using(crate::proofs::Digits::capped_zero))]
 // The count with zeros behind it, or one past the limit where it is more.
+#[tactic(auto, using(crate::proofs::Digits::capped_zero))]
 fn with_zeros(count: u64, zeros: usize) -> u64
     requires { count ≤ PAST_LIMIT }
     ensures { result ≡ min (count * 10 ^ zeros) PAST_LIMIT }
@@ -72,7 +72,7 @@ struct Cut<'a> {
     lost_part: &'a [u8],
 }
 
-// Cuts off the last digits, so many or all.
+// Cuts off the last digits, as many as are lost, or all where there are fewer.
 fn cut_off<'a>(whole: &'a [u8], part: &'a [u8], lost: usize) -> Cut<'a>
     requires whole_digits { AllDigits whole.now }
     requires part_digits { AllDigits part.now }
