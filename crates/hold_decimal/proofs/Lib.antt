@@ -1,0 +1,5 @@
+pub mod Bounds
+pub mod Cuts
+pub mod Digits
+pub mod Signs
+pub mod Times
