@@ -1,0 +1,13 @@
+//! The tokens of Verilog text.
+#![tactic(auto)]
+
+mod bytes;
+mod fault;
+mod found;
+mod number;
+mod past;
+mod table;
+mod token;
+
+pub use fault::LexFault;
+pub use token::{Sort, Token};
