@@ -3,6 +3,7 @@
 --   Read sort text n: a token of that sort and text, which takes n bytes.
 --   Bad n: n bytes on stands a byte that fits no rule. NoEnd: a comment or an attribute that has no end.
 --   NoName: an escaped name that is empty or reaches the end of the text.
+-- IsWithin len f: what f takes is at least one byte and at most len, and a bad byte stands before len.
 -- comment_end n text: the place after the first `*/`, where the text's first byte has the place n; None where
 --   there is no such sign.
 -- attribute_end within n text: the place after the first `*)` that is in no string, where the text's first byte
@@ -11,7 +12,7 @@
 -- line_directives: the directives that are read past with the rest of their line.
 -- number_sort run: the sort of a run that begins with a digit or an apostrophe: Number where all are digits,
 --   Constant where it is `1'`, a base and `0` or `1`, and nothing more; else Other.
-use Rattle.std.specs.Prelude.{ℕ, ◌+◌, Bool, true, false, ◌&&◌, ◌==◌, if◌then◌else◌, List, [], ◌∷◌, length, drop, slice_get, Option, Some, None, is_some, codes}
+use Rattle.std.specs.Prelude.{ℕ, ◌+◌, ◌<◌, ◌≤◌, Bool, true, false, ◌&&◌, ◌==◌, if◌then◌else◌, List, [], ◌∷◌, length, drop, slice_get, Option, Some, None, is_some, codes}
 use Rattle.std.specs.List.{prefix_len, take_while, list_all}
 use Rattle.std.specs.Char.{is_ascii_digit}
 use Rattle.hold_words.specs.Rows.{first_row}
@@ -99,3 +100,11 @@ front (b ∷ bs) =
     else (if begins_number b then whole (number_sort (b ∷ take_while continues_number bs)) (b ∷ take_while continues_number bs)
     else (if is_printed b then whole Sign (b ∷ [])
     else Bad 0))))))))
+
+abbrev pub IsWithin : ℕ → Front → Type 0
+IsWithin len Nothing = Unit {0}
+IsWithin len (Past n) = (0 < n) × (n ≤ len)
+IsWithin len (Read sort text n) = (0 < n) × (n ≤ len)
+IsWithin len (Bad n) = n < len
+IsWithin len NoEnd = Unit {0}
+IsWithin len NoName = Unit {0}

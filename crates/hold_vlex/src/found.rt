@@ -1,7 +1,7 @@
 ghost use Rattle.std.specs.Prelude.{◌≡◌, ◌≤◌, ◌∷◌, length, take, slice_get};
 ghost use Rattle.std.specs.List.{prefix_len, take_while};
 ghost use Rattle.hold_vlex.specs.Bytes.{backquote, is_printed, is_in_directive};
-ghost use Rattle.hold_vlex.specs.Front.{front, closed, whole, number_sort, directive, escaped};
+ghost use Rattle.hold_vlex.specs.Front.{front, closed, whole, number_sort, directive, escaped, IsWithin};
 ghost use Rattle.hold_vlex.specs.Found.{shown};
 
 use crate::bytes::{
@@ -30,9 +30,10 @@ pub enum Found<'a> {
 }
 
 /// What stands at the front of the text, by the first rule that fits.
-#[tactic(auto, unfolding(crate::specs::Front::front))]
+#[tactic(auto, using(crate::proofs::FrontLemmas::front_within), unfolding(crate::specs::Front::front))]
 pub fn find_front(text: &[u8]) -> Found<'_>
-    ensures { shown result ≡ front text.now }
+    ensures front { shown result ≡ front text.now }
+    ensures within { IsWithin (length text.now) (shown result) }
 {
     match text {
         [] => Found::Nothing,
