@@ -11,8 +11,11 @@
 -- IsNext old result new: where old is to be read, a call gives its first token, its end or its fault, and new is
 --   to be read after it. At the end and at a fault, new is old, so that later calls answer the same.
 -- AreSlices text from ts: the tokens ts stand in the text at rising places from the place from on, none within
---   another, and each has the bytes of the text at its place (an escaped name those after its backslash).
-use Rattle.std.specs.Prelude.{◌≡◌, ℕ, zero, suc, ◌+◌, ◌-◌, ◌≤◌, List, [], ◌∷◌, length, take, drop, Option, Some, None, Result, Ok, Err, ◌↔◌, IfOk, IfErr, IfSome}
+--   another or past the text's end, and each has the bytes of the text at its place (an escaped name those after
+--   its backslash).
+-- IsSpelled text: the text has a byte, and all its bytes are printed, from 33 to 126.
+use Rattle.std.specs.Prelude.{◌≡◌, ℕ, zero, suc, ◌+◌, ◌-◌, ◌<◌, ◌≤◌, List, [], ◌∷◌, length, take, drop, Option, Some, None, Result, Ok, Err, ◌↔◌, IfOk, IfErr, IfSome}
+use Rattle.std.specs.List.{AllByRecursion}
 use Rattle.hold_vlex.specs.Front.{Front, front, Nothing, Past, Read, Bad, NoEnd, NoName}
 use Rattle.hold_vlex.specs.declared.token.Sort.{Sort}
 use Rattle.hold_vlex.specs.declared.token.Sort.TheVariants.{Word, Escaped, Number, Constant, Directive, Sign, Other}
@@ -76,7 +79,10 @@ marks Sign = 0
 marks Other = 0
 
 abbrev pub AreSlices : List ℕ → ℕ → List Lexeme → Type 0
-AreSlices text from [] = Unit {0}
+AreSlices text from [] = from ≤ length text
 AreSlices text from (t ∷ ts) =
     (from ≤ t.at) × (t.text ≡ take (length t.text) (drop (t.at + marks t.sort) text))
     × AreSlices text (t.at + marks t.sort + length t.text) ts
+
+abbrev pub IsSpelled : List ℕ → Type 0
+IsSpelled text = (0 < length text) × AllByRecursion (λ b. (33 ≤ b) × (b ≤ 126)) text

@@ -1,5 +1,5 @@
 ghost use Rattle.std.specs.Prelude.{◌≡◌, ◌≤◌, ◌↔◌, None, Ok, Some, length, IfOk, IfErr, IfSome, []};
-ghost use Rattle.hold_vlex.specs.Lexed.{lexed, lexed_at, ended, with_token, lexeme, IsNext};
+ghost use Rattle.hold_vlex.specs.Lexed.{lexed, lexed_at, ended, with_token, lexeme, IsNext, AreSlices};
 
 use crate::fault::LexFault;
 use crate::found::{Found, find_front};
@@ -28,7 +28,8 @@ impl<'a> Model for Lexer<'a> {
 impl<'a> Lexer<'a> {
     /// A lexer at the front of the text.
     pub fn new(text: &'a [u8]) -> Lexer<'a>
-        ensures { result ≡ lexed text.now }
+        ensures all { result ≡ lexed text.now }
+        ensures slices { AreSlices text.now 0 result.tokens }
     {
         Lexer { text, place: 0 }
     }
