@@ -1,6 +1,8 @@
 -- The tokens of a text are slices of it at rising places.
 use Rattle.std.proofs.Common.{◌≡◌, ℕ, zero, suc, ◌+◌, ◌-◌, ◌<◌, ◌≤◌, List, [], ◌∷◌, length, take, drop, Option, Some, None, refl, sym, ◌∙◌, ap, subst, arith}
 use Rattle.std.proofs.lemmas.List.{drop-drop}
+use Rattle.std.specs.List.{AllByRecursion}
+use Rattle.hold_vlex.specs.Bytes.{IsSpelled}
 use Rattle.hold_vlex.specs.Front.{Front, Nothing, Past, Read, Bad, NoEnd, NoName, front}
 use Rattle.hold_vlex.specs.Lexed.{Lexed, Lexeme, ended, with_token, lexed_by, lexed_from, lexed, lexed_at, marks, AreSlices}
 use Rattle.hold_vlex.proofs.FrontLemmas.{Fits, front-Fits}
@@ -39,3 +41,21 @@ lexed_from-AreSlices text zero at (b ∷ bs) e l h =
 
 pub lexed-AreSlices : (text : List ℕ) → AreSlices text 0 (lexed text).tokens
 lexed-AreSlices text = lexed_from-AreSlices text 0 0 text refl (omega arith) (omega arith)
+
+-- each token is spelled by printed bytes
+lexed_from-spelled : (n at : ℕ) (bs : List ℕ) → AllByRecursion (λ (t : Lexeme). IsSpelled t.text) (lexed_from n at bs).tokens
+unfolding lexed_from front
+lexed_from-spelled n at [] = tt
+lexed_from-spelled (suc n) at (b ∷ bs) = lexed_from-spelled n (at + 1) bs
+lexed_from-spelled zero at (b ∷ bs) = by_front (front (b ∷ bs)) (front-Fits (b ∷ bs)) (λ m. lexed_from-spelled m (at + 1) bs)
+  where
+    by_front : (f : Front) → Fits (b ∷ bs) f → ((m : ℕ) → AllByRecursion (λ (t : Lexeme). IsSpelled t.text) (lexed_from m (at + 1) bs).tokens) → AllByRecursion (λ (t : Lexeme). IsSpelled t.text) (lexed_by at f (λ n. lexed_from (n - 1) (at + 1) bs)).tokens
+    by_front Nothing fits rest = tt
+    by_front (Past n) fits rest = rest (n - 1)
+    by_front (Read sort t n) fits rest = (fits.4, rest (n - 1))
+    by_front (Bad n) fits rest = tt
+    by_front NoEnd fits rest = tt
+    by_front NoName fits rest = tt
+
+pub lexed-spelled : (text : List ℕ) → AllByRecursion (λ (t : Lexeme). IsSpelled t.text) (lexed text).tokens
+lexed-spelled text = lexed_from-spelled 0 0 text

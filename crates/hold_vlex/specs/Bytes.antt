@@ -6,8 +6,10 @@
 -- begins_number b: a digit or an apostrophe. continues_number b: what continues a word, or an apostrophe.
 -- is_in_directive b: a letter, a digit or `_`.
 -- is_base b: the letter of a base, b, d, h or o in either case.
+-- IsSpelled text: the text has a byte, and each of its bytes is printed.
 -- heads b text: the text begins with that byte; never of the empty text.
-use Rattle.std.specs.Prelude.{ℕ, Bool, false, not, ◌&&◌, ◌||◌, ◌==◌, nat_le, List, [], ◌∷◌}
+use Rattle.std.specs.Prelude.{ℕ, Bool, false, not, ◌&&◌, ◌||◌, ◌==◌, nat_le, ◌<◌, ◌≤◌, List, [], ◌∷◌, length}
+use Rattle.std.specs.List.{AllByRecursion}
 use Rattle.std.specs.Char.{is_ascii_digit, is_ascii_alphabetic, is_ascii_alphanumeric}
 
 abbrev pub newline : ℕ
@@ -74,3 +76,6 @@ is_base b = b == 66 || b == 68 || b == 72 || b == 79 || b == 98 || b == 100 || b
 abbrev pub heads : ℕ → List ℕ → Bool
 heads b [] = false
 heads b (c ∷ text) = c == b
+
+abbrev pub IsSpelled : List ℕ → Type 0
+IsSpelled text = (0 < length text) × AllByRecursion (λ b. (33 ≤ b) × (b ≤ 126)) text

@@ -13,9 +13,7 @@
 -- AreSlices text from ts: the tokens ts stand in the text at rising places from the place from on, none within
 --   another or past the text's end, and each has the bytes of the text at its place (an escaped name those after
 --   its backslash).
--- IsSpelled text: the text has a byte, and all its bytes are printed, from 33 to 126.
-use Rattle.std.specs.Prelude.{◌≡◌, ℕ, zero, suc, ◌+◌, ◌-◌, ◌<◌, ◌≤◌, List, [], ◌∷◌, length, take, drop, Option, Some, None, Result, Ok, Err, ◌↔◌, IfOk, IfErr, IfSome}
-use Rattle.std.specs.List.{AllByRecursion}
+use Rattle.std.specs.Prelude.{◌≡◌, ℕ, zero, suc, ◌+◌, ◌-◌, ◌≤◌, List, [], ◌∷◌, length, take, drop, Option, Some, None, Result, Ok, Err, ◌↔◌, IfOk, IfErr, IfSome}
 use Rattle.hold_vlex.specs.Front.{Front, front, Nothing, Past, Read, Bad, NoEnd, NoName}
 use Rattle.hold_vlex.specs.declared.token.Sort.{Sort}
 use Rattle.hold_vlex.specs.declared.token.Sort.TheVariants.{Word, Escaped, Number, Constant, Directive, Sign, Other}
@@ -83,6 +81,3 @@ AreSlices text from [] = from ≤ length text
 AreSlices text from (t ∷ ts) =
     (from ≤ t.at) × (t.text ≡ take (length t.text) (drop (t.at + marks t.sort) text))
     × AreSlices text (t.at + marks t.sort + length t.text) ts
-
-abbrev pub IsSpelled : List ℕ → Type 0
-IsSpelled text = (0 < length text) × AllByRecursion (λ b. (33 ≤ b) × (b ≤ 126)) text

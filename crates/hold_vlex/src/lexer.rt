@@ -1,4 +1,6 @@
 ghost use Rattle.std.specs.Prelude.{◌≡◌, ◌≤◌, ◌↔◌, None, Ok, Some, length, IfOk, IfErr, IfSome, []};
+ghost use Rattle.std.specs.List.{AllByRecursion};
+ghost use Rattle.hold_vlex.specs.Bytes.{IsSpelled};
 ghost use Rattle.hold_vlex.specs.Lexed.{lexed, lexed_at, ended, with_token, lexeme, IsNext, AreSlices};
 
 use crate::fault::LexFault;
@@ -30,6 +32,7 @@ impl<'a> Lexer<'a> {
     pub fn new(text: &'a [u8]) -> Lexer<'a>
         ensures all { result ≡ lexed text.now }
         ensures slices { AreSlices text.now 0 result.tokens }
+        ensures spelled { AllByRecursion (λ t. IsSpelled t.text) result.tokens }
     {
         Lexer { text, place: 0 }
     }
