@@ -10,10 +10,10 @@ use Rattle.std.proofs.lemmas.List.Sums.{prefix_len-le-length}
 use Rattle.hold_vlex.specs.Lexed.{marks}
 use Rattle.std.specs.Char.{is_ascii_digit}
 use Rattle.hold_words.specs.Rows.{first_row}
-use Rattle.hold_vlex.specs.Bytes.{newline, quote, apostrophe, left_parenthesis, right_parenthesis, star, slash, backslash, backquote, is_blank, is_printed, is_in_line, begins_word, is_in_directive, continues_word, begins_number, continues_number, is_base, heads, IsSpelled}
+use Rattle.hold_vlex.specs.Bytes.{apostrophe, left_parenthesis, right_parenthesis, star, slash, backslash, backquote, is_blank, is_printed, is_in_line, begins_word, is_in_directive, continues_word, begins_number, continues_number, is_base, heads, IsSpelled}
 use Rattle.hold_vlex.specs.Front.{Front, Nothing, Past, Read, Bad, NoEnd, NoName, comment_end, attribute_end, within_after, is_plain, closed, line_directives, directive, escaped, number_sort, constant_sort, whole, front, IsWithin}
 use Rattle.hold_vlex.specs.declared.token.Sort.{Sort}
-use Rattle.hold_vlex.specs.declared.token.Sort.TheVariants.{Word, Escaped, Number, Constant, Directive, Sign, Other}
+use Rattle.hold_vlex.specs.declared.token.Sort.TheVariants.{Word, Escaped, Number, Constant, Directive, Other}
 use Rattle.hold_vlex.specs.declared.past.Within.{Within}
 use Rattle.hold_vlex.specs.declared.past.Within.TheVariants.{Plain}
 
@@ -104,8 +104,7 @@ run-length p bs = let l = length-prefix_len p bs in let m = prefix_len-le-length
 
 Fits-run : (sort : Sort) (p : ℕ → Bool) (b : ℕ) (bs : List ℕ) → marks sort ≡ 0 → ((c : ℕ) → p c ≡ true → IsPrinted c) → IsPrinted b → Fits (b ∷ bs) (whole sort (b ∷ take_while p bs))
 Fits-run sort p b bs e printed first =
-    let bound = run-length p bs in
-    (
+    let bound = run-length p bs in (
       omega arith,
       omega arith,
       run-is-front p b bs ∙ ap (λ m. take (length (b ∷ take_while p bs)) (drop m (b ∷ bs))) (sym e),
@@ -139,8 +138,13 @@ Fits-directive bs =
     cond_both (is_some (first_row run line_directives)) (Past (1 + length run + prefix_len is_in_line (drop (length run) bs)))
     (Read Directive (backquote ∷ run) (1 + length run)) (Fits (backquote ∷ bs))
     (λ _. (omega arith, omega arith))
-    (λ _. (omega arith, omega arith, run-is-front is_in_directive backquote bs, omega arith,
-      (omega arith, ((omega arith, omega arith), take_while-printed is_in_directive bs is_in_directive-is))))
+    (λ _. (
+      omega arith,
+      omega arith,
+      run-is-front is_in_directive backquote bs,
+      omega arith,
+      (omega arith, ((omega arith, omega arith), take_while-printed is_in_directive bs is_in_directive-is)),
+    ))
 
 slice_get-Some : (xs : List ℕ) (k x : ℕ) → slice_get xs k ≡ Some x → k < length xs
 slice_get-Some [] k x h = absurd cc
@@ -162,7 +166,7 @@ Fits-escaped b bs = by_next (slice_get bs (prefix_len is_printed bs)) (slice_get
         let l : length name ≡ prefix_len is_printed bs = length-prefix_len is_printed bs in
         cond_both (is_blank c) (cond (length name == 0) NoName (Read Escaped name (1 + length name))) (Bad (1 + length name)) (Fits (b ∷ bs))
         (λ _. cond_both (length name == 0) NoName (Read Escaped name (1 + length name)) (Fits (b ∷ bs)) (λ _. tt)
-          (λ e. (omega arith, omega arith, sym (ap (λ m. take m bs) l), omega arith, (is-some-length name e, take_while-printed is_printed bs is_printed-is))))
+        (λ e. (omega arith, omega arith, sym (ap (λ m. take m bs) l), omega arith, (is-some-length name e, take_while-printed is_printed bs is_printed-is))))
         (λ _. omega arith)
 
 pub front-Fits : (text : List ℕ) → Fits text (front text)
@@ -174,15 +178,15 @@ front-Fits (b ∷ bs) =
     cond_both (is_blank b) _ _ P (λ _. (omega arith, omega arith))
     (λ _. cond_both (b == slash && heads slash bs) _ _ P (λ _. (omega arith, omega arith))
     (λ _. cond_both (b == slash && heads star bs) _ _ P
-      (λ h. Fits-closed _ bs b (heads-length star bs (both-right (b == slash) (heads star bs) h)) (comment_end-within 2 (drop 1 bs)))
+    (λ h. Fits-closed _ bs b (heads-length star bs (both-right (b == slash) (heads star bs) h)) (comment_end-within 2 (drop 1 bs)))
     (λ _. cond_both (b == left_parenthesis && heads star bs) _ _ P
-      (λ h. Fits-closed _ bs b (heads-length star bs (both-right (b == left_parenthesis) (heads star bs) h)) (attribute_end-within Plain 2 (drop 1 bs)))
+    (λ h. Fits-closed _ bs b (heads-length star bs (both-right (b == left_parenthesis) (heads star bs) h)) (attribute_end-within Plain 2 (drop 1 bs)))
     (λ _. cond_both (b == backquote) _ _ P
-      (λ h. let e : backquote ≡ b = sym ((Decides-eqb b backquote).0 h) in subst (λ c. Fits (c ∷ bs) (directive (take_while is_in_directive bs) bs)) e (Fits-directive bs))
+    (λ h. let e : backquote ≡ b = sym ((Decides-eqb b backquote).0 h) in subst (λ c. Fits (c ∷ bs) (directive (take_while is_in_directive bs) bs)) e (Fits-directive bs))
     (λ _. cond_both (b == backslash) _ _ P (λ _. Fits-escaped b bs)
     (λ _. cond_both (begins_word b) _ _ P (λ h. Fits-run Word continues_word b bs refl continues_word-is (begins_word-is b h))
     (λ _. cond_both (begins_number b) _ _ P
-      (λ h. Fits-run (number_sort (b ∷ take_while continues_number bs)) continues_number b bs (marks-number_sort (b ∷ take_while continues_number bs)) continues_number-is (begins_number-is b h))
+    (λ h. Fits-run (number_sort (b ∷ take_while continues_number bs)) continues_number b bs (marks-number_sort (b ∷ take_while continues_number bs)) continues_number-is (begins_number-is b h))
     (λ _. cond_both (is_printed b) _ _ P (λ h. (omega arith, omega arith, refl, omega arith, (omega arith, (is_printed-is b h, tt)))) (λ _. omega arith)))))))))
 
 pub IsWithin-from_Fits : (text : List ℕ) (f : Front) → Fits text f → IsWithin (length text) f

@@ -1,8 +1,8 @@
 -- What is read from a text goes by what stands at its front.
-use Rattle.std.proofs.Common.{◌≡◌, ℕ, zero, suc, ◌+◌, ◌-◌, ◌<◌, ◌≤◌, List, [], ◌∷◌, length, take, drop, Option, Some, None, Ok, Err, refl, sym, ◌∙◌, ap, subst, arith}
+use Rattle.std.proofs.Common.{◌≡◌, ℕ, zero, suc, ◌+◌, ◌-◌, ◌<◌, List, [], ◌∷◌, length, drop, Some, None, Ok, Err, refl, sym, ◌∙◌, ap, subst, arith}
 use Rattle.std.proofs.lemmas.List.{drop-drop}
 use Rattle.hold_vlex.specs.Front.{Front, Nothing, Past, Read, Bad, NoEnd, NoName, front, IsWithin}
-use Rattle.hold_vlex.specs.Lexed.{Lexed, Lexeme, ended, with_token, lexed_by, lexed_from, lexed, lexed_at, lexeme, IsNext}
+use Rattle.hold_vlex.specs.Lexed.{Lexed, ended, with_token, lexed_by, lexed_from, lexed_at, lexeme, IsNext}
 use Rattle.hold_vlex.specs.declared.token.Token.{Token}
 use Rattle.hold_vlex.specs.declared.fault.LexFault.{LexFault}
 use Rattle.hold_vlex.proofs.FrontLemmas.{front_within}
@@ -47,7 +47,7 @@ lexed_at-front place text f e =
     lexed_from-front place (drop place text)
     ∙ ap (λ g. lexed_by place g (λ n. lexed_from 0 (place + n) (drop n (drop place text)))) (sym e)
     ∙ lexed_by-after place _ f _ _ (subst (IsWithin (length (drop place text))) (sym e) (front_within (drop place text)))
-      (λ n h. ap (lexed_from 0 (place + n)) (drop-drop n place text))
+    (λ n h. ap (lexed_from 0 (place + n)) (drop-drop n place text))
 
 -- the three answers of a call
 pub IsNext-None : (old new : Lexed) → new ≡ old → old ≡ ended None → IsNext old (Ok None) new

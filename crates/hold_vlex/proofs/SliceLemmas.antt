@@ -1,12 +1,11 @@
 -- The tokens of a text are slices of it at rising places.
-use Rattle.std.proofs.Common.{◌≡◌, ℕ, zero, suc, ◌+◌, ◌-◌, ◌<◌, ◌≤◌, List, [], ◌∷◌, length, take, drop, Option, Some, None, refl, sym, ◌∙◌, ap, subst, arith}
+use Rattle.std.proofs.Common.{◌≡◌, ℕ, zero, suc, ◌+◌, ◌-◌, ◌≤◌, List, [], ◌∷◌, length, take, drop, refl, sym, ◌∙◌, ap, subst, arith}
 use Rattle.std.proofs.lemmas.List.{drop-drop}
 use Rattle.std.specs.List.{AllByRecursion}
 use Rattle.hold_vlex.specs.Bytes.{IsSpelled}
 use Rattle.hold_vlex.specs.Front.{Front, Nothing, Past, Read, Bad, NoEnd, NoName, front}
-use Rattle.hold_vlex.specs.Lexed.{Lexed, Lexeme, ended, with_token, lexed_by, lexed_from, lexed, lexed_at, marks, AreSlices}
+use Rattle.hold_vlex.specs.Lexed.{Lexeme, lexed_by, lexed_from, lexed, marks, AreSlices}
 use Rattle.hold_vlex.proofs.FrontLemmas.{Fits, front-Fits}
-use Rattle.hold_vlex.specs.declared.token.Sort.{Sort}
 
 AreSlices-earlier : (text : List ℕ) (from before : ℕ) (ts : List Lexeme) → before ≤ from → AreSlices text from ts → AreSlices text before ts
 AreSlices-earlier text from before [] l h = omega (arith, l, h)

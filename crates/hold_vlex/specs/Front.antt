@@ -9,14 +9,21 @@
 -- attribute_end within n text: the place after the first `*)` that is in no string, where the text's first byte
 --   has the place n and stands in plain text, in a string, or after a backslash in a string; None where there
 --   is no such sign.
+-- closed end: what is read past up to that end, or NoEnd where there is none.
 -- line_directives: the directives that are read past with the rest of their line.
+-- directive run bs: what a backquote opens, where bs follows it and run is its name, which may be empty: past
+--   with its line, or a token whose text has the backquote.
+-- escaped name next: what a backslash opens, where name follows it, as far as bytes are printed, and next is the
+--   byte after that. A byte that is no blank is bad, also after an empty name.
 -- number_sort run: the sort of a run that begins with a digit or an apostrophe: Number where all are digits,
 --   Constant where it is `1'`, a base and `0` or `1`, and nothing more; else Other.
+-- whole sort text: a token whose text is all that it takes.
+-- front text: what stands at the front of the text.
 use Rattle.std.specs.Prelude.{ℕ, ◌+◌, ◌<◌, ◌≤◌, Bool, true, false, ◌&&◌, ◌==◌, if◌then◌else◌, List, [], ◌∷◌, length, drop, slice_get, Option, Some, None, is_some, codes}
 use Rattle.std.specs.List.{prefix_len, take_while, list_all}
 use Rattle.std.specs.Char.{is_ascii_digit}
 use Rattle.hold_words.specs.Rows.{first_row}
-use Rattle.hold_vlex.specs.Bytes.{newline, quote, apostrophe, left_parenthesis, right_parenthesis, star, slash, backslash, backquote, is_blank, is_printed, is_in_line, begins_word, is_in_directive, continues_word, begins_number, continues_number, is_base, heads}
+use Rattle.hold_vlex.specs.Bytes.{quote, apostrophe, left_parenthesis, right_parenthesis, star, slash, backslash, backquote, is_blank, is_printed, is_in_line, begins_word, is_in_directive, continues_word, begins_number, continues_number, is_base, heads}
 use Rattle.hold_vlex.specs.declared.token.Sort.{Sort}
 use Rattle.hold_vlex.specs.declared.token.Sort.TheVariants.{Word, Escaped, Number, Constant, Directive, Sign, Other}
 use Rattle.hold_vlex.specs.declared.past.Within.{Within}
@@ -51,7 +58,6 @@ attribute_end within n (b ∷ bs) =
     if is_plain within && (b == star && heads right_parenthesis bs) then Some (n + 2)
     else attribute_end (within_after within b) (n + 1) bs
 
--- what is read past up to its end
 abbrev pub closed : Option ℕ → Front
 closed (Some n) = Past n
 closed None = NoEnd
@@ -60,13 +66,11 @@ unfoldable pub line_directives : List (List ℕ)
 line_directives =
     codes "timescale" ∷ codes "celldefine" ∷ codes "endcelldefine" ∷ codes "default_nettype" ∷ codes "resetall" ∷ []
 
--- the run and the text after a backquote
 abbrev pub directive : List ℕ → List ℕ → Front
 directive run bs =
     if is_some (first_row run line_directives) then Past (1 + length run + prefix_len is_in_line (drop (length run) bs))
     else Read Directive (backquote ∷ run) (1 + length run)
 
--- the bytes after a backslash up to the first that isn't printed, and that byte, where the text has one
 abbrev pub escaped : List ℕ → Option ℕ → Front
 escaped name None = NoName
 escaped name (Some b) =
@@ -83,7 +87,6 @@ constant_sort _ = Other
 unfoldable pub number_sort : List ℕ → Sort
 number_sort run = if list_all is_ascii_digit run then Number else constant_sort run
 
--- a token whose text is all that it takes
 abbrev pub whole : Sort → List ℕ → Front
 whole sort text = Read sort text (length text)
 

@@ -1,19 +1,22 @@
 -- Lexeme: a token without where it lies in memory: its sort, its text (of an escaped name without the
 --   backslash, of a directive with the backquote) and the place of its first byte, from 0.
+-- lexeme t: the lexeme of a token.
 -- Lexed: what is read from a text: its tokens in order, up to its end or up to the first fault, and that fault.
 --   A text without a fault has None there. An empty text has no tokens and no fault.
 -- ended fault: nothing more, but for that fault.
 -- with_token t l: the token t and then l.
+-- lexed_by at f after: what is read where f stands at the place at, and after n of its bytes what after tells.
 -- lexed text: what is read from the text.
 -- lexed_from n at text: what is read from a text whose first byte has the place at, and whose first n bytes
 --   belong to what was read before it.
 -- lexed_at place text: what is read from the text from that place on.
 -- IsNext old result new: where old is to be read, a call gives its first token, its end or its fault, and new is
 --   to be read after it. At the end and at a fault, new is old, so that later calls answer the same.
+-- marks sort: how many bytes stand before the text of a token of that sort: the backslash of an escaped name.
 -- AreSlices text from ts: the tokens ts stand in the text at rising places from the place from on, none within
 --   another or past the text's end, and each has the bytes of the text at its place (an escaped name those after
 --   its backslash).
-use Rattle.std.specs.Prelude.{◌≡◌, ℕ, zero, suc, ◌+◌, ◌-◌, ◌≤◌, List, [], ◌∷◌, length, take, drop, Option, Some, None, Result, Ok, Err, ◌↔◌, IfOk, IfErr, IfSome}
+use Rattle.std.specs.Prelude.{◌≡◌, ℕ, zero, suc, ◌+◌, ◌-◌, ◌≤◌, List, [], ◌∷◌, length, take, drop, Option, Some, None, Result, Ok, ◌↔◌, IfOk, IfErr, IfSome}
 use Rattle.hold_vlex.specs.Front.{Front, front, Nothing, Past, Read, Bad, NoEnd, NoName}
 use Rattle.hold_vlex.specs.declared.token.Sort.{Sort}
 use Rattle.hold_vlex.specs.declared.token.Sort.TheVariants.{Word, Escaped, Number, Constant, Directive, Sign, Other}
@@ -30,7 +33,6 @@ pub record Lexed : Type 0 where
   pub tokens : List Lexeme
   pub fault : Option LexFault
 
--- the token of the code, as a value
 abbrev pub lexeme : Token → Lexeme
 lexeme t = record { sort = t.sort; text = t.text.now; at = t.at }
 
@@ -40,7 +42,6 @@ ended fault = record { tokens = []; fault = fault }
 abbrev pub with_token : Lexeme → Lexed → Lexed
 with_token t l = record { tokens = t ∷ l.tokens; fault = l.fault }
 
--- what is read where this stands at the place at, and after n bytes that is read which after tells
 abbrev pub lexed_by : ℕ → Front → (ℕ → Lexed) → Lexed
 lexed_by at Nothing after = ended None
 lexed_by at (Past n) after = after n
@@ -66,7 +67,6 @@ pub record IsNext (old : Lexed) (result : Result (Option Token) LexFault) (new :
   pub fault : IfErr result (λ f. old ≡ ended (Some f))
   pub stays : old.tokens ≡ [] → new ≡ old
 
--- how many bytes stand before a token's text
 abbrev pub marks : Sort → ℕ
 marks Word = 0
 marks Escaped = 1

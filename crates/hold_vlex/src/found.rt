@@ -5,7 +5,8 @@ ghost use Rattle.hold_vlex.specs.Front.{front, closed, whole, number_sort, direc
 ghost use Rattle.hold_vlex.specs.Found.{shown};
 
 use crate::bytes::{
-    begins_number, begins_word, directive_len, is_blank, is_printed, line_len, number_len, printed_len, stands_at, word_len,
+    begins_number, begins_word, directive_len, is_blank, is_printed, line_len, number_len,
+    printed_len, stands_at, word_len,
 };
 use crate::number::number_sort;
 use crate::past::{attribute_end, comment_end};

@@ -1,7 +1,5 @@
-use Rattle.std.proofs.Common.{◌≡◌, ◌+◌, Some, arith, sym, ◌∙◌, ap}
+use Rattle.std.proofs.Common.{arith, sym, ◌∙◌, ap}
 use Rattle.hold_vlex.specs.Front.{front, Nothing, Past, Read, Bad, NoEnd, NoName}
-use Rattle.hold_vlex.specs.Lexed.{lexed_at, with_token, ended}
-use Rattle.hold_vlex.specs.declared.fault.LexFault.TheVariants.{BadByte, OpenComment, OpenName}
 use Rattle.hold_vlex.proofs.LexedLemmas.{lexed_at-front, IsNext-None, IsNext-Some, IsNext-Err}
 use Rattle.hold_vlex.proofs.lexer.next_at.Goals as goal
 
