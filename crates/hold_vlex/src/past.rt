@@ -1,0 +1,64 @@
+ghost use Rattle.std.specs.Prelude.{◌≡◌, ◌≤◌, length, drop};
+ghost use Rattle.hold_vlex.specs.Front.{comment_end, attribute_end, within_after, is_plain};
+
+use crate::bytes::stands_at;
+
+/// Where a byte of an attribute stands.
+#[derive(Clone, Copy, Debug)]
+pub enum Within {
+    /// In no string.
+    Plain,
+    /// In a string.
+    Quoted,
+    /// After a backslash in a string.
+    Slashed,
+}
+
+impl Within {
+    fn is_plain(self) -> bool
+        ensures { result ≡ is_plain self }
+    {
+        matches!(self, Within::Plain)
+    }
+
+    /// Where the next byte stands, after the byte b that stands here.
+    fn after(self, b: u8) -> Within
+        ensures { result ≡ within_after self b }
+    {
+        match self {
+            Within::Plain if b == b'"' => Within::Quoted,
+            Within::Plain => Within::Plain,
+            Within::Quoted if b == b'"' => Within::Plain,
+            Within::Quoted if b == b'\\' => Within::Slashed,
+            Within::Quoted | Within::Slashed => Within::Quoted,
+        }
+    }
+}
+
+/// The place after the end of the comment, in a text that begins with the comment's opening sign.
+pub fn comment_end(text: &[u8]) -> Option<usize>
+    requires { 2 ≤ length text.now }
+    ensures { result ≡ comment_end 2 (drop 2 text.now) }
+{
+    for i in 2..text.len() {
+        if text[i] == b'*' && stands_at(text, i + 1, b'/') {
+            return Some(i + 2);
+        }
+    }
+    None
+}
+
+/// The place after the end of the attribute, in a text that begins with the attribute's opening sign.
+pub fn attribute_end(text: &[u8]) -> Option<usize>
+    requires { 2 ≤ length text.now }
+    ensures { result ≡ attribute_end Within.Plain 2 (drop 2 text.now) }
+{
+    let mut within = Within::Plain;
+    for i in 2..text.len() {
+        if within.is_plain() && text[i] == b'*' && stands_at(text, i + 1, b')') {
+            return Some(i + 2);
+        }
+        within = within.after(text[i]);
+    }
+    None
+}

@@ -1,0 +1,8 @@
+use Rattle.hold_words.proofs.Places.{found_is_first, none_is_nowhere}
+use Rattle.hold_words.proofs.table.WordTable.find_any_case.Goals as goal
+
+pub returns-clause-found : goal.returns-clause-found
+returns-clause-found g c = found_is_first _ _ _ c.place_in_any_case.ensures.place
+
+pub returns-clause-nowhere : goal.returns-clause-nowhere
+returns-clause-nowhere g c = none_is_nowhere _ _ _ c.place_in_any_case.ensures.place
