@@ -1,0 +1,8 @@
+//! The nested groups of a text of the Standard Delay Format (IEEE 1497-2001), as one flat list of pieces
+//! in which each opening parenthesis knows the place of its closing one.
+#![tactic(auto)]
+
+mod front;
+mod piece;
+
+pub use piece::{Form, Piece};
