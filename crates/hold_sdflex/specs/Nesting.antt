@@ -1,13 +1,16 @@
 -- How the pieces of a text nest.
 --
 -- depth after a piece: one more after an opening parenthesis, one less after a closing one, else the same;
---     none where a closing one stands at depth 0, which closes what was opened before.
--- pieces inside a group: those between its opening parenthesis and the closing one that stands where no
---     group within is open; none where the text ends before.
--- paired: each opening parenthesis has the place of its closing one in the list; none where one has none.
---     A closing parenthesis that closes nothing is left as it stands.
+--     none where a closing one stands at depth 0, since it closes what was opened before.
+-- pieces inside a group: those after its opening parenthesis up to the closing one that stands where no
+--     group within is open; none where the list ends before.
+-- paired: each opening parenthesis has the place of its closing one in the list; none where one has none. A
+--     closing parenthesis that closes nothing stays as it is.
+-- waiting closings: of the closing parentheses in a list whose opening ones stand before the list, the places,
+--     the last one first.
 -- balanced: each parenthesis in the list has its partner in the list. The empty list is balanced.
-use Rattle.std.specs.Prelude.{◌≡◌, ℕ, zero, suc, ◌+◌, List, [], ◌∷◌, Option, None, Some, option_map, option_and_then}
+-- in order: the pieces lie between two places of the text, one after another, and each has a byte.
+use Rattle.std.specs.Prelude.{◌≡◌, ℕ, zero, suc, ◌+◌, ◌<◌, ◌≤◌, List, [], ◌∷◌, Option, None, Some, option_map, option_and_then, reverse, slice_get, slice_range}
 use Rattle.std.specs.Option.{option_map_or}
 use Rattle.hold_sdflex.specs.declared.piece.Form.{Form}
 use Rattle.hold_sdflex.specs.declared.piece.Form.TheVariants.{Open, Close, Colon, Text, Atom}
@@ -22,20 +25,12 @@ depth_after Colon depth = Some depth
 depth_after Text depth = Some depth
 depth_after Atom depth = Some depth
 
--- how many of the pieces stand inside a group of which so much is read that `depth` groups within are open
+-- how many pieces of the list are inside a group of which so much is read that `depth` groups within are open
 abbrev pub inside : List Piece → ℕ → Option ℕ
 inside [] depth = None
 inside (p ∷ ps) depth = option_map_or (λ d. option_map suc (inside ps d)) (depth_after p.form depth) (Some 0)
 
--- the depth after all of the pieces
-abbrev pub depth_over : List Piece → ℕ → Option ℕ
-depth_over [] depth = Some depth
-depth_over (p ∷ ps) depth = option_and_then (λ d. depth_over ps d) (depth_after p.form depth)
-
-abbrev pub IsBalanced : List Piece → Type 0
-IsBalanced ps = depth_over ps 0 ≡ Some 0
-
--- the form of the piece at this place of the list, paired, where these pieces follow it
+-- the paired form of the piece at this place of the list, where these pieces follow it
 abbrev pub paired_form : Form → ℕ → List Piece → Option Form
 paired_form (Open close) place after = option_map (λ n. Open (place + 1 + n)) (inside after 0)
 paired_form Close place after = Some Close
@@ -48,3 +43,20 @@ abbrev pub paired : List Piece → ℕ → Option (List Piece)
 paired [] place = Some []
 paired (p ∷ ps) place =
     option_and_then (λ form. option_map (λ rest. record p { form = form } ∷ rest) (paired ps (place + 1))) (paired_form p.form place ps)
+
+-- the closings that wait in the pieces from this place of the list on
+pub record AreWaiting (closings : List ℕ) (ps : List Piece) (place : ℕ) : Type 0 where
+  pub each : (depth : ℕ) → option_map (λ n. place + n) (inside ps depth) ≡ slice_get (reverse closings) depth
+
+-- the depth after all of the pieces
+abbrev pub depth_over : List Piece → ℕ → Option ℕ
+depth_over [] depth = Some depth
+depth_over (p ∷ ps) depth = option_and_then (λ d. depth_over ps d) (depth_after p.form depth)
+
+abbrev pub IsBalanced : List Piece → Type 0
+IsBalanced ps = depth_over ps 0 ≡ Some 0
+
+-- the pieces lie in order from byte `start` up to but without byte `end`
+abbrev pub AreInOrder : List Piece → ℕ → ℕ → Type 0
+AreInOrder [] start end = start ≤ end
+AreInOrder (p ∷ ps) start end = (start ≤ p.from) × (p.from < p.to) × AreInOrder ps p.to end

@@ -2,7 +2,9 @@
 //! in which each opening parenthesis knows the place of its closing one.
 #![tactic(auto)]
 
+mod cut;
 mod front;
+mod pair;
 mod piece;
 
 pub use piece::{Form, Piece};
