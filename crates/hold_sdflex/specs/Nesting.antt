@@ -9,8 +9,7 @@
 -- waiting closings: of the closing parentheses in a list whose opening ones stand before the list, the places,
 --     the last one first.
 -- balanced: each parenthesis in the list has its partner in the list. The empty list is balanced.
--- in order: the pieces lie between two places of the text, one after another, and each has a byte.
-use Rattle.std.specs.Prelude.{◌≡◌, ℕ, zero, suc, ◌+◌, ◌<◌, ◌≤◌, List, [], ◌∷◌, Option, None, Some, option_map, option_and_then, reverse, slice_get, slice_range}
+use Rattle.std.specs.Prelude.{◌≡◌, ℕ, zero, suc, ◌+◌, List, [], ◌∷◌, Option, None, Some, option_map, option_and_then, reverse, slice_get}
 use Rattle.std.specs.Option.{option_map_or}
 use Rattle.hold_sdflex.specs.declared.piece.Form.{Form}
 use Rattle.hold_sdflex.specs.declared.piece.Form.TheVariants.{Open, Close, Colon, Text, Atom}
@@ -55,8 +54,3 @@ depth_over (p ∷ ps) depth = option_and_then (λ d. depth_over ps d) (depth_aft
 
 abbrev pub IsBalanced : List Piece → Type 0
 IsBalanced ps = depth_over ps 0 ≡ Some 0
-
--- the pieces lie in order from byte `start` up to but without byte `end`
-abbrev pub AreInOrder : List Piece → ℕ → ℕ → Type 0
-AreInOrder [] start end = start ≤ end
-AreInOrder (p ∷ ps) start end = (start ≤ p.from) × (p.from < p.to) × AreInOrder ps p.to end

@@ -4,7 +4,9 @@
 
 mod cut;
 mod front;
+mod groups;
 mod pair;
 mod piece;
 
+pub use groups::{read_groups, GroupFault, Groups};
 pub use piece::{Form, Piece};
