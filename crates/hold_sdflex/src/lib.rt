@@ -7,6 +7,8 @@ mod front;
 mod groups;
 mod pair;
 mod piece;
+#[cfg(test)]
+mod tests;
 
 pub use groups::{read_groups, GroupFault, Groups};
 pub use piece::{Form, Piece};
