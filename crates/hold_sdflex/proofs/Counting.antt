@@ -1,6 +1,6 @@
 -- Counts of bytes, kept while a loop goes over a text: what is left of the text, counted on from the place
 -- that is reached, gives what the whole text does.
-use Rattle.std.proofs.Common.{◌≡◌, ℕ, zero, suc, ◌+◌, ◌<◌, ◌≤◌, Bool, true, false, List, [], ◌∷◌, length, get_or, take, drop, refl, sym, ap, ◌∙◌, add-zero, add-suc, add-one, arith}
+use Rattle.std.proofs.Common.{◌≡◌, ℕ, suc, ◌+◌, ◌<◌, ◌≤◌, Bool, true, false, List, [], ◌∷◌, length, get_or, drop, refl, sym, ap, ◌∙◌, add-zero, arith}
 use Rattle.std.specs.Prelude.{Option, None, Some, option_map, if◌then◌else◌, ◌==◌, ◌&&◌}
 use Rattle.std.proofs.lemmas.List.{at_drop_more, at_drop_all}
 use Rattle.hold_sdflex.specs.Front.{star, slash, backslash, ends_atom, block_rest, atom_rest}
@@ -26,9 +26,9 @@ block_scan (b ∷ bytes) after_star = if after_star && b == slash then Some 1 el
 block_rest-scan : (a : ℕ) (bytes : List ℕ) → block_rest (a ∷ bytes) ≡ option_map suc (block_scan bytes (a == star))
 block_rest-scan a [] = refl
 block_rest-scan a (b ∷ bytes) = elim (a == star && b == slash) as (λ t. (if t then Some 2 else option_map suc (block_rest (b ∷ bytes))) ≡ option_map suc (if t then Some 1 else option_map suc (block_scan bytes (b == star)))) [
-    true ↦ refl
+  | true ↦ refl
   | false ↦ ap (option_map suc) (block_rest-scan b bytes)
-  ]
+]
 
 pub block_scan-rest : (bytes : List ℕ) → block_scan bytes false ≡ block_rest bytes
 block_scan-rest [] = refl

@@ -1,7 +1,7 @@
 -- The pieces of a text, kept while a loop goes over it: those that are found, and then those of what is left,
 -- are the whole text's.
-use Rattle.std.proofs.Common.{◌≡◌, ℕ, zero, suc, ◌+◌, ◌-◌, ◌<◌, ◌≤◌, List, [], ◌∷◌, ◌++◌, length, get_or, drop, refl, sym, ap, ◌∙◌, add-zero, add-suc, append_assoc, append-nil, arith}
-use Rattle.std.specs.Prelude.{Option, None, Some, option_map, option_and_then}
+use Rattle.std.proofs.Common.{◌≡◌, ℕ, zero, suc, ◌+◌, ◌-◌, ◌<◌, ◌≤◌, List, [], ◌∷◌, ◌++◌, length, get_or, drop, refl, sym, ap, ◌∙◌, add-zero, append_assoc, append-nil, arith}
+use Rattle.std.specs.Prelude.{Option, None, Some, option_map}
 use Rattle.std.proofs.lemmas.List.{at_drop_more, at_drop_all, drop-drop}
 use Rattle.hold_sdflex.specs.declared.front.Front.{Front}
 use Rattle.hold_sdflex.specs.declared.piece.Piece.{Piece}
@@ -34,7 +34,7 @@ module _ (text : List ℕ) (at d : ℕ) (within : at < length text) where
   front_found found front is not_empty =
       let place : at + 1 + (front.len - 1) ≡ at + front.len = omega arith in
       let rest : pieces_from (drop (at + 1) text) (front.len - 1) (at + 1) ≡ pieces_from (drop (at + front.len) text) 0 (at + front.len) =
-          pieces_from-skip (drop (at + 1) text) (front.len - 1) (at + 1) ∙ rw (drop-drop (front.len - 1) (at + 1) text, place) refl in
+      pieces_from-skip (drop (at + 1) text) (front.len - 1) (at + 1) ∙ rw (drop-drop (front.len - 1) (at + 1) text, place) refl in
       rw (at_drop_more (λ bs. pieces_from bs 0 at) text at d within, is, rest) (before-map found (pieces_of front.form at (at + front.len)) _)
 
 pub all_found : (text : List ℕ) (at : ℕ) (found : List Piece) → length text ≤ at → before found (pieces_from (drop at text) 0 at) ≡ Some found

@@ -1,6 +1,6 @@
 -- How the pieces of a text stand that is one whole group.
 use Rattle.std.proofs.Common.{◌≡◌, ℕ, zero, suc, ◌+◌, ◌-◌, ◌<◌, ◌≤◌, List, [], ◌∷◌, length, take, drop, refl, sym, ap, ◌∙◌, subst, inl, inr, arith}
-use Rattle.std.specs.Prelude.{Option, None, Some, option_map, option_and_then, IfSome, slice_get, slice_range, Result, Ok, Err}
+use Rattle.std.specs.Prelude.{Option, None, Some, option_map, slice_get, Ok, Err}
 use Rattle.std.specs.Option.{option_map_or}
 use Rattle.std.proofs.lemmas.List.{drop-drop}
 use Rattle.std.proofs.lemmas.Option.{option_and_then_some, slice_get_within, slice_get-get_or}
@@ -9,11 +9,11 @@ use Rattle.hold_sdflex.specs.declared.piece.Form.{Form}
 use Rattle.hold_sdflex.specs.declared.piece.Form.TheVariants.{Open, Close, Colon, Text, Atom}
 use Rattle.hold_sdflex.specs.declared.piece.Piece.{Piece}
 use Rattle.hold_sdflex.specs.Pieces.{pieces_of_text}
-use Rattle.hold_sdflex.specs.Nesting.{inside, paired, depth_over, IsBalanced}
+use Rattle.hold_sdflex.specs.Nesting.{inside, paired, IsBalanced}
 use Rattle.hold_sdflex.specs.Groups.{paired_pieces, after_group, stray, group_or_fault, group_of, form_at, IsGroup, AreOneGroup, AreInOrder}
 use Rattle.hold_sdflex.proofs.Options.{map_some}
 use Rattle.hold_sdflex.proofs.Rising.{AreRising, pieces_from-rising, rising_fit, rising-in_order}
-use Rattle.hold_sdflex.proofs.Partners.{inside-nested, inside-balanced, ArePaired, paired_parts, paired-again, closing_of}
+use Rattle.hold_sdflex.proofs.Partners.{inside-nested, inside-balanced, paired_parts, paired-again, closing_of}
 
 form_at-drop : (ps : List Piece) (k i : ℕ) → form_at (drop k ps) i ≡ form_at ps (k + i)
 form_at-drop ps zero i = ap (form_at ps) (omega arith)
@@ -34,7 +34,7 @@ module _ (ps : List Piece) (same : paired ps 0 ≡ Some ps) where
       let first : suc i ≡ i + 1 = omega arith in
       let count : n ≡ c - (i + 1) = omega (arith, closing.2) in
       let between : IsBalanced (take (c - (i + 1)) (drop (i + 1) ps)) =
-          subst (λ k. IsBalanced (take (c - (i + 1)) (drop k ps))) first (subst (λ k. IsBalanced (take k (drop (suc i) ps))) count balanced.0) in
+      subst (λ k. IsBalanced (take (c - (i + 1)) (drop k ps))) first (subst (λ k. IsBalanced (take k (drop (suc i) ps))) count balanced.0) in
       record {
         later = omega (arith, closing.2);
         closes = ap (form_at ps) (sym place) ∙ sym (form_at-drop ps (suc i) n) ∙ balanced.1;
@@ -58,8 +58,8 @@ no_stray : (p : Piece) (ps : List Piece) (form : Form) → p.form ≡ form → s
 no_stray p ps (Open c) is none within =
     let last : c < length (p ∷ ps) = within c refl in
     elim (cases_lt (c + 1) (length (p ∷ ps))) [
-      inl more ↦ absurd (contradiction more)
-    | inr past ↦ ap Open (omega arith)
+      | inl more ↦ absurd (contradiction more)
+      | inr past ↦ ap Open (omega arith)
     ]
   where
     contradiction : c + 1 < length (p ∷ ps) → ⊥

@@ -1,14 +1,13 @@
 -- The pieces of a text lie in it one after another.
-use Rattle.std.proofs.Common.{◌≡◌, ℕ, zero, suc, ◌+◌, ◌-◌, ◌<◌, ◌≤◌, Bool, true, false, List, [], ◌∷◌, ◌++◌, length, refl, sym, ap, ◌∙◌, subst, arith}
+use Rattle.std.proofs.Common.{◌≡◌, ℕ, zero, suc, ◌+◌, ◌-◌, ◌<◌, ◌≤◌, Bool, true, false, List, [], ◌∷◌, ◌++◌, length, refl, subst, arith}
 use Rattle.std.specs.Prelude.{Option, None, Some, option_map, option_and_then, unwrap_or, IfSome, position, ◌&&◌, slice_get, if◌then◌else◌, ◌==◌}
 use Rattle.std.proofs.lemmas.List.Quantifiers.{position-Some}
 use Rattle.hold_sdflex.specs.declared.front.Front.{Front}
 use Rattle.hold_sdflex.specs.declared.piece.Form.{Form}
-use Rattle.hold_sdflex.specs.declared.piece.Form.TheVariants.{Open, Close, Colon, Text, Atom}
+use Rattle.hold_sdflex.specs.declared.piece.Form.TheVariants.{Text, Atom}
 use Rattle.hold_sdflex.specs.declared.piece.Piece.{Piece}
 use Rattle.hold_sdflex.specs.Front.{newline, opening, closing, quote, star, slash, colon, backslash, is_white, ends_atom, line_rest, block_rest, atom_rest, gap, piece, atom_after, after_slash, front_of}
 use Rattle.hold_sdflex.specs.Pieces.{pieces_of, pieces_from}
-use Rattle.hold_sdflex.specs.Nesting.{paired}
 use Rattle.hold_sdflex.specs.Groups.{AreInOrder}
 
 -- a number in an option is at most this

@@ -17,18 +17,25 @@ use Rattle.hold_sdflex.specs.declared.piece.Form.TheVariants.{Open, Close, Colon
 
 abbrev pub newline : ℕ
 newline = 10
+
 abbrev pub quote : ℕ
 quote = 34
+
 abbrev pub opening : ℕ
 opening = 40
+
 abbrev pub closing : ℕ
 closing = 41
+
 abbrev pub star : ℕ
 star = 42
+
 abbrev pub slash : ℕ
 slash = 47
+
 abbrev pub colon : ℕ
 colon = 58
+
 abbrev pub backslash : ℕ
 backslash = 92
 

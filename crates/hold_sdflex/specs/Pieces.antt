@@ -4,7 +4,6 @@
 --     end; white space and comments are left out. A text without any has the empty list. None where one of
 --     the fronts is none. Each opening parenthesis has 0 in place of its closing one.
 use Rattle.std.specs.Prelude.{ℕ, zero, suc, ◌+◌, ◌-◌, List, [], ◌∷◌, ◌++◌, Option, None, Some, option_map, option_and_then}
-use Rattle.hold_sdflex.specs.declared.front.Front.{Front}
 use Rattle.hold_sdflex.specs.declared.piece.Form.{Form}
 use Rattle.hold_sdflex.specs.declared.piece.Piece.{Piece}
 use Rattle.hold_sdflex.specs.Front.{front_of}

@@ -1,9 +1,18 @@
 ghost use Rattle.std.specs.Prelude.{
-    ◌≡◌, ◌+◌, ◌^◌, ◌<◌, ◌≤◌, ◌++◌, length, option_map, OnOk, IfOk,
+  ◌≡◌,
+  ◌+◌,
+  ◌^◌,
+  ◌<◌,
+  ◌≤◌,
+  ◌++◌,
+  length,
+  option_map,
+  OnOk,
+  IfOk,
 };
 ghost use Rattle.hold_sdflex.specs.Pieces.{pieces_of, pieces_of_text};
 
-use crate::front::{front_of, Front};
+use crate::front::{Front, front_of};
 use crate::piece::Piece;
 use hold_base::Memory;
 use std::alloc::Global;

@@ -1,8 +1,26 @@
 ghost use Rattle.std.specs.Prelude.{
-    ◌≡◌, ◌+◌, ◌^◌, ◌<◌, ◌≤◌, ◌==◌, length, position, IfSome, Some,
+  ◌≡◌,
+  ◌+◌,
+  ◌^◌,
+  ◌<◌,
+  ◌≤◌,
+  ◌==◌,
+  length,
+  position,
+  IfSome,
+  Some,
 };
 ghost use Rattle.hold_sdflex.specs.Front.{
-    is_white, ends_atom, line_rest, block_rest, atom_rest, gap, piece, atom_after, after_slash, front_of,
+  is_white,
+  ends_atom,
+  line_rest,
+  block_rest,
+  atom_rest,
+  gap,
+  piece,
+  atom_after,
+  after_slash,
+  front_of,
 };
 
 use crate::piece::Form;
@@ -101,10 +119,7 @@ fn line_rest(bytes: &[u8]) -> usize
     }
 }
 
-#[tactic(
-    auto,
-    using(crate::proofs::Counting::block_begins, crate::proofs::Counting::block_ended, crate::proofs::Counting::block_goes_on, crate::proofs::Counting::block_unended)
-)]
+#[tactic(auto, using(crate::proofs::Counting::block_begins, crate::proofs::Counting::block_ended, crate::proofs::Counting::block_goes_on, crate::proofs::Counting::block_unended))]
 fn block_rest(bytes: &[u8]) -> Option<usize>
     ensures value { result ≡ block_rest bytes.now }
     ensures within { IfSome result (λ n. n ≤ length bytes.now) }
@@ -119,10 +134,7 @@ fn block_rest(bytes: &[u8]) -> Option<usize>
     None
 }
 
-#[tactic(
-    auto,
-    using(crate::proofs::Counting::atom_takes, crate::proofs::Counting::atom_ended, crate::proofs::Counting::atom_goes_on, crate::proofs::Counting::atom_whole, crate::proofs::Counting::atom_unended)
-)]
+#[tactic(auto, using(crate::proofs::Counting::atom_takes, crate::proofs::Counting::atom_ended, crate::proofs::Counting::atom_goes_on, crate::proofs::Counting::atom_whole, crate::proofs::Counting::atom_unended))]
 fn atom_rest(first_taken: bool, bytes: &[u8]) -> Option<usize>
     ensures value { result ≡ atom_rest first_taken bytes.now }
     ensures within { IfSome result (λ n. n ≤ length bytes.now) }

@@ -1,8 +1,26 @@
 ghost use Rattle.std.specs.Prelude.{
-    ◌≡◌, ℕ, ◌^◌, ◌<◌, List, [], length, option_map, option_copied, IfOk, IsErrOf, Ok, Err, Some,
+  ◌≡◌,
+  ℕ,
+  ◌^◌,
+  ◌<◌,
+  List,
+  [],
+  length,
+  option_map,
+  option_copied,
+  IfOk,
+  IsErrOf,
+  Ok,
+  Err,
+  Some,
 };
 ghost use Rattle.hold_sdflex.specs.Groups.{
-    paired_pieces, after_group, stray, group_of, AreOneGroup, AreInOrder,
+  paired_pieces,
+  after_group,
+  stray,
+  group_of,
+  AreOneGroup,
+  AreInOrder,
 };
 
 use crate::cut::pieces_of_text;

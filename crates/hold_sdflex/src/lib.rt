@@ -10,5 +10,5 @@ mod piece;
 #[cfg(test)]
 mod tests;
 
-pub use groups::{read_groups, GroupFault, Groups};
+pub use groups::{GroupFault, Groups, read_groups};
 pub use piece::{Form, Piece};

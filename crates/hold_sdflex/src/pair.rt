@@ -1,5 +1,16 @@
 ghost use Rattle.std.specs.Prelude.{
-    ◌≡◌, ◌+◌, ◌^◌, ◌<◌, List, ◌∷◌, length, Some, None, IfOk, IfSome, if◌then◌else◌,
+  ◌≡◌,
+  ◌+◌,
+  ◌^◌,
+  ◌<◌,
+  List,
+  ◌∷◌,
+  length,
+  Some,
+  None,
+  IfOk,
+  IfSome,
+  if◌then◌else◌,
 };
 ghost use Rattle.hold_sdflex.specs.declared.piece.Piece.{Piece as PieceValue};
 ghost use Rattle.hold_sdflex.specs.Nesting.{paired_form, paired, AreWaiting};
@@ -25,11 +36,7 @@ pub(crate) fn pair(alloc: Global, pieces: &mut [Piece]) -> Result<bool, Memory>
 }
 
 // The paired form of the piece at a place, and then the closings that wait from this place on.
-fn paired_form(
-    form: Form,
-    place: u32,
-    closings: &mut Vec<u32>,
-) -> Result<Option<Form>, Memory>
+fn paired_form(form: Form, place: u32, closings: &mut Vec<u32>) -> Result<Option<Form>, Memory>
     ensures form { (after : List PieceValue) → AreWaiting closings.old.items after (place + 1)
         → IfOk result (λ found. found ≡ paired_form form place after) }
     ensures waiting { (piece : PieceValue) (after : List PieceValue) → AreWaiting closings.old.items after (place + 1)

@@ -1,6 +1,6 @@
 ghost use Rattle.std.specs.Prelude.{◌^◌, ◌<◌, length, IsTrue};
 
-use crate::groups::{read_groups, GroupFault};
+use crate::groups::{GroupFault, read_groups};
 use crate::piece::{Form, Piece};
 use hold_base::Stop;
 use std::test::Fail;
@@ -17,8 +17,8 @@ const SDF: &[u8] = b"(DELAYFILE
 
 // The piece that closes each group of `SDF`, in the order of their openings.
 const CLOSINGS: [u32; 26] = [
-    98, 5, 9, 13, 17, 69, 23, 27, 68, 67, 52, 51, 47, 50, 66, 65, 61, 64, 97, 75, 79, 96, 95, 88, 91,
-    94,
+    98, 5, 9, 13, 17, 69, 23, 27, 68, 67, 52, 51, 47, 50, 66, 65, 61, 64, 97, 75, 79, 96, 95, 88,
+    91, 94,
 ];
 
 fn is_short(text: &[u8]) -> bool
@@ -46,7 +46,10 @@ fn comments_strings_and_backslashes(rt: HostRuntime) -> Result<(), Fail> {
     assert_eq!(rt; groups.tokens().len(), want.len());
     for (piece, (form, bytes)) in groups.tokens().iter().zip(want) {
         assert_eq!(rt; piece.form, form);
-        assert_eq!(rt; text.get(piece.from as usize..piece.to as usize), Some(bytes));
+        assert_eq!(rt;
+            text.get(piece.from as usize..piece.to as usize),
+            Some(bytes)
+        );
     }
     Ok(())
 }

@@ -1,5 +1,4 @@
-use Rattle.std.proofs.Common.{◌≡◌, ◌∙◌, ap, sym, length, Some, arith}
-use Rattle.std.specs.Prelude.{option_map}
+use Rattle.std.proofs.Common.{◌≡◌, ap, length, Some, arith}
 use Rattle.hold_sdflex.specs.Pieces.{pieces_of_text}
 use Rattle.hold_sdflex.proofs.OneGroup.{pieces_fit}
 use Rattle.hold_sdflex.proofs.groups.paired_pieces.Goals as goal
