@@ -62,3 +62,8 @@ module _ (bytes : List ℕ) (i : ℕ) (past : length bytes ≤ i) where
 
 pub block_begins : (bytes : List ℕ) → shift 0 (block_scan bytes false) ≡ block_rest bytes
 block_begins bytes = shift-zero (block_scan bytes false) ∙ block_scan-rest bytes
+
+-- what a loop over a block comment needs, and one over an atom
+pub ruleset block_steps = (block_begins, block_ended, block_goes_on, block_unended)
+
+pub ruleset atom_steps = (atom_takes, atom_ended, atom_goes_on, atom_whole, atom_unended)

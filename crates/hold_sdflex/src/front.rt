@@ -119,7 +119,7 @@ fn line_rest(bytes: &[u8]) -> usize
     }
 }
 
-#[tactic(auto, using(crate::proofs::Counting::block_begins, crate::proofs::Counting::block_ended, crate::proofs::Counting::block_goes_on, crate::proofs::Counting::block_unended))]
+#[tactic(auto, using(crate::proofs::Counting::block_steps))]
 fn block_rest(bytes: &[u8]) -> Option<usize>
     ensures value { result ≡ block_rest bytes.now }
     ensures within { IfSome result (λ n. n ≤ length bytes.now) }
@@ -134,7 +134,7 @@ fn block_rest(bytes: &[u8]) -> Option<usize>
     None
 }
 
-#[tactic(auto, using(crate::proofs::Counting::atom_takes, crate::proofs::Counting::atom_ended, crate::proofs::Counting::atom_goes_on, crate::proofs::Counting::atom_whole, crate::proofs::Counting::atom_unended))]
+#[tactic(auto, using(crate::proofs::Counting::atom_steps))]
 fn atom_rest(first_taken: bool, bytes: &[u8]) -> Option<usize>
     ensures value { result ≡ atom_rest first_taken bytes.now }
     ensures within { IfSome result (λ n. n ≤ length bytes.now) }
