@@ -6,10 +6,8 @@
 --     group within is open; none where the list ends before.
 -- paired: each opening parenthesis has the place of its closing one in the list; none where one has none. A
 --     closing parenthesis that closes nothing stays as it is.
--- waiting closings: of the closing parentheses in a list whose opening ones stand before the list, the places,
---     the last one first.
 -- balanced: each parenthesis in the list has its partner in the list. The empty list is balanced.
-use Rattle.std.specs.Prelude.{◌≡◌, ℕ, zero, suc, ◌+◌, List, [], ◌∷◌, Option, None, Some, option_map, option_and_then, reverse, slice_get}
+use Rattle.std.specs.Prelude.{◌≡◌, ℕ, zero, suc, ◌+◌, List, [], ◌∷◌, Option, None, Some, option_map, option_and_then}
 use Rattle.std.specs.Option.{option_map_or}
 use Rattle.hold_sdflex.specs.declared.piece.Form.{Form}
 use Rattle.hold_sdflex.specs.declared.piece.Form.TheVariants.{Open, Close, Colon, Text, Atom}
@@ -42,10 +40,6 @@ abbrev pub paired : List Piece → ℕ → Option (List Piece)
 paired [] place = Some []
 paired (p ∷ ps) place =
     option_and_then (λ form. option_map (λ rest. record p { form = form } ∷ rest) (paired ps (place + 1))) (paired_form p.form place ps)
-
--- the closings that wait in the pieces from this place of the list on
-pub record AreWaiting (closings : List ℕ) (ps : List Piece) (place : ℕ) : Type 0 where
-  pub each : (depth : ℕ) → option_map (λ n. place + n) (inside ps depth) ≡ slice_get (reverse closings) depth
 
 -- the depth after all of the pieces
 abbrev pub depth_over : List Piece → ℕ → Option ℕ

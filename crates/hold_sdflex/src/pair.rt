@@ -13,7 +13,8 @@ ghost use Rattle.std.specs.Prelude.{
   if◌then◌else◌,
 };
 ghost use Rattle.hold_sdflex.specs.declared.piece.Piece.{Piece as PieceValue};
-ghost use Rattle.hold_sdflex.specs.Nesting.{paired_form, paired, AreWaiting};
+ghost use Rattle.hold_sdflex.specs.Nesting.{paired_form, paired};
+ghost use Rattle.hold_sdflex.specs.Waiting.{AreWaiting};
 
 use crate::piece::{Form, Piece};
 use hold_base::Memory;

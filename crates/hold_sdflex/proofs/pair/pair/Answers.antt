@@ -1,6 +1,7 @@
 use Rattle.std.proofs.Common.{◌≡◌, ◌+◌, ◌-◌, ◌∷◌, subst, sym, ◌∙◌, arith, drop, get_or, refl}
-use Rattle.hold_sdflex.specs.Nesting.{paired_form, AreWaiting}
-use Rattle.hold_sdflex.proofs.Waiting.{ArePairedFrom, paired_one, none_paired, nowhere}
+use Rattle.hold_sdflex.specs.Nesting.{paired_form}
+use Rattle.hold_sdflex.specs.Waiting.{AreWaiting}
+use Rattle.hold_sdflex.proofs.Pairing.{ArePairedFrom, paired_one, none_paired, nowhere}
 use Rattle.hold_sdflex.proofs.pair.pair.Goals as goal
 
 -- the piece has no partner

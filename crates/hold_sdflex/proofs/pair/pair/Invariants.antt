@@ -1,4 +1,4 @@
-use Rattle.hold_sdflex.proofs.Waiting.{ArePairedFrom}
+use Rattle.hold_sdflex.proofs.Pairing.{ArePairedFrom}
 use Rattle.hold_sdflex.proofs.pair.pair.Given as goal
 
 abbrev pub invariant-loop-place : goal.invariant-loop-place

@@ -5,7 +5,8 @@ use Rattle.std.proofs.lemmas.List.{at_drop_more, reverse-append, length-set, tak
 use Rattle.hold_sdflex.specs.declared.piece.Form.{Form}
 use Rattle.hold_sdflex.specs.declared.piece.Form.TheVariants.{Open, Close, Colon, Text, Atom}
 use Rattle.hold_sdflex.specs.declared.piece.Piece.{Piece}
-use Rattle.hold_sdflex.specs.Nesting.{inside, paired_form, paired, AreWaiting}
+use Rattle.hold_sdflex.specs.Nesting.{inside, paired_form, paired}
+use Rattle.hold_sdflex.specs.Waiting.{AreWaiting}
 
 -- the number after another, counted from the place before
 counted : (place : ℕ) (o : Option ℕ) → option_map (λ n. place + n) (option_map suc o) ≡ option_map (λ n. place + 1 + n) o
