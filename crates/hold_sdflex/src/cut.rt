@@ -1,15 +1,4 @@
-ghost use Rattle.std.specs.Prelude.{
-  ◌≡◌,
-  ◌+◌,
-  ◌^◌,
-  ◌<◌,
-  ◌≤◌,
-  ◌++◌,
-  length,
-  option_map,
-  OnOk,
-  IfOk,
-};
+ghost use Rattle.std.specs.Prelude.{◌≡◌, ◌+◌, ◌^◌, ◌<◌, ◌++◌, length, option_map, OnOk, IfOk};
 ghost use Rattle.hold_sdflex.specs.Pieces.{pieces_of, pieces_of_text};
 
 use crate::front::{Front, front_of};

@@ -1,15 +1,4 @@
-ghost use Rattle.std.specs.Prelude.{
-  ◌≡◌,
-  ◌+◌,
-  ◌^◌,
-  ◌<◌,
-  ◌≤◌,
-  ◌==◌,
-  length,
-  position,
-  IfSome,
-  Some,
-};
+ghost use Rattle.std.specs.Prelude.{◌≡◌, ◌+◌, ◌^◌, ◌<◌, ◌≤◌, ◌==◌, length, position, IfSome};
 ghost use Rattle.hold_sdflex.specs.Front.{
   is_white,
   ends_atom,

@@ -1,19 +1,4 @@
-ghost use Rattle.std.specs.Prelude.{
-  ◌≡◌,
-  ℕ,
-  ◌^◌,
-  ◌<◌,
-  List,
-  [],
-  length,
-  option_map,
-  option_copied,
-  IfOk,
-  IsErrOf,
-  Ok,
-  Err,
-  Some,
-};
+ghost use Rattle.std.specs.Prelude.{◌≡◌, ℕ, ◌^◌, ◌<◌, length, option_map, IfOk, IsErrOf, Ok, Err};
 ghost use Rattle.hold_sdflex.specs.Groups.{
   paired_pieces,
   after_group,
