@@ -1,0 +1,14 @@
+//! The nested groups of a text of the Standard Delay Format (IEEE 1497-2001), as one flat list of pieces
+//! in which each opening parenthesis knows the place of its closing one.
+#![tactic(auto)]
+
+mod cut;
+mod front;
+mod groups;
+mod pair;
+mod piece;
+#[cfg(test)]
+mod tests;
+
+pub use groups::{GroupFault, Groups, read_groups};
+pub use piece::{Form, Piece};
