@@ -1,0 +1,5 @@
+pub mod Graph
+pub mod Path
+pub mod Sums
+pub mod Problem
+pub mod Met
