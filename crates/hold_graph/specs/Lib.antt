@@ -3,3 +3,4 @@ pub mod Path
 pub mod Sums
 pub mod Problem
 pub mod Met
+pub mod Arrival

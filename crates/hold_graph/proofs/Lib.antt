@@ -1,0 +1,4 @@
+pub mod Weights
+pub mod Starts
+pub mod Steps
+pub mod Walks
