@@ -2,3 +2,4 @@ pub mod Weights
 pub mod Starts
 pub mod Steps
 pub mod Walks
+pub mod Excess

@@ -1,10 +1,10 @@
 -- From the equations that hold at each pin after the pass: no path's sum is below what comes to its end, and a walk back
 -- from a pin finds a path that has that sum.
-use Rattle.std.proofs.Common.{◌≡◌, ℕ, zero, suc, ◌+◌, ◌<◌, List, [], ◌∷◌, map, length, refl, ap, sym, ◌∙◌, arith, get_or, subst, ◌⊎◌, inl, inr}
-use Rattle.std.specs.Prelude.{Option, Some, None, ℤ, pos, neg_ℤ, ◌+ℤ◌, ◌≤ℤ◌, Contains, All, slice_get}
+use Rattle.std.proofs.Common.{◌≡◌, ℕ, zero, suc, ◌+◌, ◌<◌, List, [], ◌∷◌, map, length, Bool, true, false, cond, refl, ap, sym, ◌∙◌, arith, get_or, subst, ◌⊎◌, inl, inr}
+use Rattle.std.specs.Prelude.{Option, Some, None, ℤ, pos, neg_ℤ, ◌+ℤ◌, ◌≤ℤ◌, Contains, All, slice_get, slice_index_or, int_lt}
 use Rattle.std.specs.Int.{int_min}
 use Rattle.std.proofs.lemmas.Int.{ints, clamps}
-use Rattle.std.proofs.lemmas.Option.{slice_get_within, slice_get_read, get_or_from_slice_get, same_Some}
+use Rattle.std.proofs.lemmas.Option.{slice_get_within, slice_get_read, get_or_from_slice_get, same_Some, none-some}
 use Rattle.hold_base.specs.declared.number.PinNo.{PinNo}
 use Rattle.hold_base.specs.declared.time.Interval.{Interval}
 use Rattle.hold_base.specs.declared.time.Side.{Side}
@@ -14,24 +14,8 @@ use Rattle.hold_graph.specs.declared.problem.Spans.{Spans}
 use Rattle.hold_graph.specs.Graph.{EndsOnce}
 use Rattle.hold_graph.specs.Path.{HasArc, EachNext, last_pin}
 use Rattle.hold_graph.specs.Sums.{no_buffers, steps_sum}
-use Rattle.hold_graph.specs.Arrival.{signed, weight, lesser, AtMost, extended, origin, offer, IsInto, IsRight}
+use Rattle.hold_graph.specs.Arrival.{signed, weight, lesser, AtMost, extended, origin, offer, IsInto, IsRight, coming, signed_steps, IsSettled, IsFound, CameBy}
 use Rattle.hold_graph.proofs.Steps.{step_of, step_of-arc, signed-add}
-
--- the tables of one side after the pass
-pub record IsSettled (side : Side) (pins : ℕ) (arcs : List Arc) (spans : Spans) (starts : List (Option ℤ)) (into : List (Option ℕ)) (best : List (Option ℤ)) : Type 0 where
-  pub once : EndsOnce arcs
-  pub each : length spans.arcs ≡ length arcs
-  pub to : All (λ arc. arc.to.0 < pins) arcs
-  pub places : IsInto arcs into
-  pub right : (pin : ℕ) → pin < pins → IsRight arcs (map (weight side) spans.arcs) starts into best pin
-
--- what comes to a pin by the arc that ends there
-abbrev pub coming : Side → List Arc → Spans → List (Option ℕ) → List (Option ℤ) → PinNo → Option ℤ
-coming side arcs spans into best pin = offer arcs (map (weight side) spans.arcs) best (get_or into pin.0 None)
-
--- the steps of a path from a on, as the pass adds them
-abbrev pub signed_steps : Side → List Arc → Spans → PinNo → List PinNo → ℤ
-signed_steps side arcs spans a rest = signed side (steps_sum side arcs spans no_buffers a rest)
 
 AtMost-extended : (o : Option ℤ) (x w : ℤ) → AtMost o x → AtMost (extended o w) (x +ℤ w)
 AtMost-extended None x w h = h
@@ -194,3 +178,95 @@ tail_end side arcs spans starts best pin rest capture sum tail own =
     let begun = begun_from (get_or starts pin.0 None) (signed_steps side arcs spans pin rest) sum
         (ap (λ (o : Option ℤ). extended o (signed_steps side arcs spans pin rest)) (sym own) ∙ tail.value) in
     record { start = begun.0; is = begun.1; value = begun.2 }
+
+-- the state of the walk back at a pin: `by` is the place of the arc to go back along, and none where the walk begins
+pub record IsBack (side : Side) (arcs : List Arc) (spans : Spans) (starts : List (Option ℤ)) (into : List (Option ℕ)) (best : List (Option ℤ)) (pin : PinNo) (rest : List PinNo) (by : Option ℕ) (capture : PinNo) (sum : ℤ) : Type 0 where
+  pub next : EachNext arcs pin rest
+  pub last : last_pin pin rest ≡ capture
+  pub begun : by ≡ None → IsFound side arcs spans starts (pin ∷ rest) capture sum
+  pub place : (k : ℕ) → by ≡ Some k → slice_index_or into pin.0 None ≡ Some k
+  pub value : (k : ℕ) → by ≡ Some k → extended (coming side arcs spans into best pin) (signed_steps side arcs spans pin rest) ≡ Some sum
+
+coming-none : (side : Side) (arcs : List Arc) (spans : Spans) (into : List (Option ℕ)) (best : List (Option ℤ)) (pin : PinNo) →
+    get_or into pin.0 None ≡ None → coming side arcs spans into best pin ≡ None
+coming-none side arcs spans into best pin e = ap (offer arcs (map (weight side) spans.arcs) best) e
+
+-- before the first step
+pub back_none : (side : Side) (arcs : List Arc) (spans : Spans) (starts : List (Option ℤ)) (into : List (Option ℕ)) (best : List (Option ℤ)) (capture : PinNo) (sum : ℤ) →
+    coming side arcs spans into best capture ≡ Some sum →
+    IsBack side arcs spans starts into best capture [] (get_or into capture.0 None) capture sum
+back_none side arcs spans starts into best capture sum comes_there = record {
+    next = tt;
+    last = refl;
+    begun = λ e. absurd (none-some sum (sym (coming-none side arcs spans into best capture e) ∙ comes_there));
+    place = λ k e. e;
+    value = λ k e. ap (λ (o : Option ℤ). extended o (signed side (pos 0))) comes_there
+        ∙ ap (λ (z : ℤ). Some z) (let zero = signed-zero side in omega (arith, ints, zero))
+  }
+
+lesser-none : (o : Option ℤ) → lesser o None ≡ o
+lesser-none None = refl
+lesser-none (Some x) = refl
+
+-- where the best is not a pin's own start, it is what comes there
+lesser_other : (a b : Option ℤ) → (lesser a b ≡ a) ⊎ (lesser a b ≡ b)
+lesser_other None b = inr refl
+lesser_other (Some x) None = inl refl
+lesser_other (Some x) (Some y) = by_least (int_lt y x)
+  where
+    by_least : (t : Bool) → (Some (cond t y x) ≡ Some x) ⊎ (Some (cond t y x) ≡ Some y)
+    by_least true = inr refl
+    by_least false = inl refl
+
+found_begun : (side : Side) (arcs : List Arc) (spans : Spans) (starts best : List (Option ℤ)) (pin second : PinNo) (rest : List PinNo) (capture : PinNo) (sum : ℤ) →
+    IsTail side arcs spans best pin (second ∷ rest) capture sum → get_or best pin.0 None ≡ get_or starts pin.0 None →
+    IsFound side arcs spans starts (pin ∷ second ∷ rest) capture sum
+found_begun side arcs spans starts best pin second rest capture sum tail own =
+    let begun = tail_end side arcs spans starts best pin (second ∷ rest) capture sum tail own in
+    record {
+      first = pin; second = second; rest = rest; split = refl;
+      next = tail.next; last = tail.last; start = begun.start; begins = begun.is; value = begun.value
+    }
+
+-- where the best at a pin differs from its start, it is what comes there
+best_comes : (side : Side) (arcs : List Arc) (spans : Spans) (starts : List (Option ℤ)) (into : List (Option ℕ)) (best : List (Option ℤ)) (pin : PinNo) →
+    IsRight arcs (map (weight side) spans.arcs) starts into best pin.0 → (get_or best pin.0 None ≡ get_or starts pin.0 None → ⊥) →
+    get_or best pin.0 None ≡ coming side arcs spans into best pin
+best_comes side arcs spans starts into best pin right differs =
+    by_case (lesser_other (get_or starts pin.0 None) (coming side arcs spans into best pin))
+  where
+    by_case : ((lesser (get_or starts pin.0 None) (coming side arcs spans into best pin) ≡ get_or starts pin.0 None) ⊎ (lesser (get_or starts pin.0 None) (coming side arcs spans into best pin) ≡ coming side arcs spans into best pin)) →
+        get_or best pin.0 None ≡ coming side arcs spans into best pin
+    by_case (inl e) = absurd (differs (right.is ∙ e))
+    by_case (inr e) = right.is ∙ e
+
+-- a step back: from the pin to the one that its arc leads from
+pub back_more : (side : Side) (pins : ℕ) (arcs : List Arc) (spans : Spans) (starts : List (Option ℤ)) (into : List (Option ℕ)) (best : List (Option ℤ)) →
+    IsSettled side pins arcs spans starts into best → (pin : PinNo) (rest : List PinNo) (k : ℕ) (capture : PinNo) (sum : ℤ) →
+    IsBack side arcs spans starts into best pin rest (Some k) capture sum → (arc : Arc) (by : Option ℕ) → arc.from.0 < pins → slice_get arcs k ≡ Some arc →
+    CameBy (get_or best arc.from.0 None) (get_or starts arc.from.0 None) (get_or into arc.from.0 None) by →
+    IsBack side arcs spans starts into best arc.from (pin ∷ rest) by capture sum
+back_more side pins arcs spans starts into best h pin rest k capture sum back arc by below at came =
+    by_case (tail_more side pins arcs spans starts into best h pin rest capture sum k arc (back.place k refl) at back.next back.last (back.value k refl)) came
+  where
+    by_case : IsTail side arcs spans best arc.from (pin ∷ rest) capture sum →
+        CameBy (get_or best arc.from.0 None) (get_or starts arc.from.0 None) (get_or into arc.from.0 None) by →
+        IsBack side arcs spans starts into best arc.from (pin ∷ rest) by capture sum
+    by_case tail (inl here) = record {
+        next = tail.next;
+        last = tail.last;
+        begun = λ e. found_begun side arcs spans starts best arc.from pin rest capture sum tail here.0;
+        place = λ j e. absurd (none-some j (sym here.1 ∙ e));
+        value = λ j e. absurd (none-some j (sym here.1 ∙ e))
+      }
+    by_case tail (inr on) =
+        let comes_here : get_or best arc.from.0 None ≡ coming side arcs spans into best arc.from =
+            best_comes side arcs spans starts into best arc.from (h.right arc.from.0 below) on.0 in
+        record {
+          next = tail.next;
+          last = tail.last;
+          begun = λ e. absurd (on.0 ((h.right arc.from.0 below).is
+            ∙ ap (lesser (get_or starts arc.from.0 None)) (coming-none side arcs spans into best arc.from (sym on.1 ∙ e)) ∙ lesser-none (get_or starts arc.from.0 None)));
+          place = λ j e. sym on.1 ∙ e;
+          value = λ j e. ap (λ (o : Option ℤ). extended o (signed_steps side arcs spans arc.from (pin ∷ rest))) (sym comes_here) ∙ tail.value
+        }

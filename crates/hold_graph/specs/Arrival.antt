@@ -11,8 +11,19 @@
 -- offer arcs weights best place: what the arc at that place brings to the pin that it ends at, none without an arc.
 -- IsInto arcs into: by pin, the place of the arc that ends there, and none where no arc does.
 -- IsRight arcs weights starts into best pin: the best at a pin is the lesser of its own start and of what comes there.
--- IsOrder ranks order: the order has each pin, and ranks never fall along it.
-use Rattle.std.specs.Prelude.{◌≡◌, ℕ, ◌<◌, ◌≤◌, List, [], ◌∷◌, length, Option, Some, None, slice_get, slice_index, slice_index_or, ℤ, pos, neg_ℤ, ◌+ℤ◌, ◌≤ℤ◌, Contains, All}
+-- CameBy best own place by: a walk goes back along the arc at `by`. It begins here where the best is the pin's own start.
+-- IsOrder pins ranks order: the order has each of so many pins and no other, and ranks never fall along it.
+-- coming side arcs spans into best pin: what the arc that ends at a pin brings there, none where no arc does.
+-- signed_steps side arcs spans a rest: the steps of a path from a on with no buffers, as the pass adds them.
+-- IsSettled: the tables of one side after the pass: each pin's best is right.
+-- checks_of side spans: the times that the side's check takes away, hold at the early side and setup at the late one.
+-- base_of side problem: what the side adds to every path, the period at the late side and 0 at the early one.
+-- left coming end check base: what is left at a capture, none where a part is missing.
+-- AreTables: what the tables of one side of a corner have, by pin.
+-- left_at: what is left at a capture by these tables.
+-- IsFound path capture sum: the path has at least two pins, each next by an arc, ends at the capture, and what its first
+--   pin has by itself and its steps add up to the sum.
+use Rattle.std.specs.Prelude.{◌≡◌, ◌≢◌, ◌⊎◌, ℕ, ◌<◌, ◌≤◌, List, [], ◌∷◌, map, length, Option, Some, None, slice_get, slice_index, slice_index_or, ℤ, pos, neg_ℤ, ◌+ℤ◌, ◌≤ℤ◌, Contains, All}
 use Rattle.std.specs.Int.{int_min}
 use Rattle.std.specs.List.Sorted.{IsNonDecreasingBy}
 use Rattle.hold_base.specs.declared.number.PinNo.{PinNo}
@@ -20,7 +31,11 @@ use Rattle.hold_base.specs.declared.time.Interval.{Interval}
 use Rattle.hold_base.specs.declared.time.Side.{Side}
 use Rattle.hold_base.specs.declared.time.Side.TheVariants.{Early, Late}
 use Rattle.hold_graph.specs.declared.graph.Arc.{Arc}
-use Rattle.hold_graph.specs.Sums.{end_of, items_at}
+use Rattle.hold_graph.specs.declared.graph.Parts.{Parts}
+use Rattle.hold_graph.specs.declared.problem.Spans.{Spans}
+use Rattle.hold_graph.specs.Graph.{EndsOnce}
+use Rattle.hold_graph.specs.Path.{EachNext, last_pin}
+use Rattle.hold_graph.specs.Sums.{end_of, items_at, steps_sum, no_buffers}
 
 abbrev pub signed : Side → ℤ → ℤ
 signed Early time = time
@@ -75,3 +90,59 @@ pub record IsOrder (pins : ℕ) (ranks : List ℕ) (order : List PinNo) : Type 0
   pub below : All (λ pin. pin.0 < pins) order
   pub each : (pin : ℕ) → pin < pins → Contains order (record { 0 = pin })
   pub rising : IsNonDecreasingBy (λ pin. slice_index ranks pin.0) order
+
+abbrev pub coming : Side → List Arc → Spans → List (Option ℕ) → List (Option ℤ) → PinNo → Option ℤ
+coming side arcs spans into best pin = offer arcs (map (weight side) spans.arcs) best (slice_index_or into pin.0 None)
+
+abbrev pub signed_steps : Side → List Arc → Spans → PinNo → List PinNo → ℤ
+signed_steps side arcs spans a rest = signed side (steps_sum side arcs spans no_buffers a rest)
+
+pub record IsSettled (side : Side) (pins : ℕ) (arcs : List Arc) (spans : Spans) (starts : List (Option ℤ)) (into : List (Option ℕ)) (best : List (Option ℤ)) : Type 0 where
+  pub once : EndsOnce arcs
+  pub each : length spans.arcs ≡ length arcs
+  pub to : All (λ arc. arc.to.0 < pins) arcs
+  pub places : IsInto arcs into
+  pub right : (pin : ℕ) → pin < pins → IsRight arcs (map (weight side) spans.arcs) starts into best pin
+
+pub record IsFound (side : Side) (arcs : List Arc) (spans : Spans) (starts : List (Option ℤ)) (path : List PinNo) (capture : PinNo) (sum : ℤ) : Type 0 where
+  pub first : PinNo
+  pub second : PinNo
+  pub rest : List PinNo
+  pub split : path ≡ first ∷ second ∷ rest
+  pub next : EachNext arcs first (second ∷ rest)
+  pub last : last_pin second rest ≡ capture
+  pub start : ℤ
+  pub begins : slice_index_or starts first.0 None ≡ Some start
+  pub value : start +ℤ signed_steps side arcs spans first (second ∷ rest) ≡ sum
+
+abbrev pub CameBy : Option ℤ → Option ℤ → Option ℕ → Option ℕ → Type 0
+CameBy best own place by = ((best ≡ own) × (by ≡ None)) ⊎ ((best ≢ own) × (by ≡ place))
+
+abbrev pub checks_of : Side → Spans → List ℤ
+checks_of Early spans = spans.hold
+checks_of Late spans = spans.setup
+
+abbrev pub base_of : Side → ℤ → ℤ
+base_of Early period = pos 0
+base_of Late period = period
+
+abbrev pub left : Option ℤ → Option ℤ → Option ℤ → ℤ → Option ℤ
+left None end check base = None
+left (Some sum) None check base = None
+left (Some sum) (Some end) None base = None
+left (Some sum) (Some end) (Some check) base = Some (((sum +ℤ end) +ℤ check) +ℤ base)
+
+-- each pin has the least of its numbers
+abbrev pub IsLeastByPin : ℕ → List PinNo → List ℤ → List (Option ℤ) → Type 0
+IsLeastByPin pins listed numbers table =
+    (pin : PinNo) → pin.0 < pins → slice_index_or table pin.0 None ≡ least_at listed numbers pin
+
+pub record AreTables (side : Side) (parts : Parts) (spans : Spans) (into : List (Option ℕ)) (starts best ends checks : List (Option ℤ)) : Type 0 where
+  pub settled : IsSettled side parts.pins parts.arcs spans starts into best
+  pub begins : IsLeastByPin parts.pins parts.launches (map (weight side) spans.launch) starts
+  pub arrives : IsLeastByPin parts.pins parts.captures (map (weight (opposite side)) spans.capture) ends
+  pub needs : IsLeastByPin parts.pins parts.captures (map neg_ℤ (checks_of side spans)) checks
+
+abbrev pub left_at : Side → Parts → Spans → ℤ → List (Option ℕ) → List (Option ℤ) → List (Option ℤ) → List (Option ℤ) → PinNo → Option ℤ
+left_at side parts spans period into best ends checks capture =
+    left (coming side parts.arcs spans into best capture) (slice_index_or ends capture.0 None) (slice_index_or checks capture.0 None) (base_of side period)
