@@ -32,9 +32,9 @@ check_at side parts spans pin = greatest_of (items_at parts.captures (checks_of 
 -- an excess is the signed sum and what the capture takes away
 pub excess_is : (side : Side) (problem : Problem) (spans : Spans) (a : PinNo) (rest : List PinNo) →
     excess side problem spans no_buffers (a ∷ rest)
-        ≡ (((weight side (hull_of (items_at problem.graph.launches spans.launch a)) +ℤ signed_steps side problem.graph.arcs spans a rest)
-            +ℤ weight (opposite side) (capture_at problem.graph spans (last_pin a rest)))
-            +ℤ neg_ℤ (check_at side problem.graph spans (last_pin a rest))) +ℤ base_of side problem.period
+    ≡ (((weight side (hull_of (items_at problem.graph.launches spans.launch a)) +ℤ signed_steps side problem.graph.arcs spans a rest)
+    +ℤ weight (opposite side) (capture_at problem.graph spans (last_pin a rest)))
+    +ℤ neg_ℤ (check_at side problem.graph spans (last_pin a rest))) +ℤ base_of side problem.period
 excess_is Early problem spans a rest = omega (arith, ints)
 excess_is Late problem spans a rest = omega (arith, ints)
 
@@ -66,18 +66,18 @@ met_from side problem spans into starts best ends checks tables valid numbers en
     let c_below : c.0 < parts.pins = All-contains (λ (pin : PinNo). pin.0 < parts.pins) parts.captures c numbers.captures checked.1 in
     let start : ℤ = weight side (hull_of (items_at parts.launches spans.launch a)) in
     let begins : get_or starts a.0 None ≡ Some start =
-        tables.begins a a_below ∙ least_at-weights side parts.launches spans.launch a valid.launch_each (listed parts.launches a checked.0) in
+    tables.begins a a_below ∙ least_at-weights side parts.launches spans.launch a valid.launch_each (listed parts.launches a checked.0) in
     let own : AtMost (get_or starts a.0 None) start = rw begins (omega (arith, ints)) in
     let best_a : AtMost (get_or best a.0 None) start = start_at_most parts.arcs (map (weight side) spans.arcs) starts into best a.0 start (tables.settled.right a.0 a_below) own in
     let e : ℤ = weight (opposite side) (capture_at parts spans c) in
     let k : ℤ = neg_ℤ (check_at side parts spans c) in
     let arrives : get_or ends c.0 None ≡ Some e =
-        tables.arrives c c_below ∙ least_at-weights (opposite side) parts.captures spans.capture c valid.capture_each (listed parts.captures c checked.1) in
+    tables.arrives c c_below ∙ least_at-weights (opposite side) parts.captures spans.capture c valid.capture_each (listed parts.captures c checked.1) in
     let needs : get_or checks c.0 None ≡ Some k =
-        tables.needs c c_below ∙ least_at-negated parts.captures (checks_of side spans) c (checks_each side problem spans valid) (listed parts.captures c checked.1) in
+    tables.needs c c_below ∙ least_at-negated parts.captures (checks_of side spans) c (checks_each side problem spans valid) (listed parts.captures c checked.1) in
     let steps : ℤ = signed_steps side parts.arcs spans a (b ∷ rest) in
     let comes : AtMost (coming side parts.arcs spans into best c) (start +ℤ steps) =
-        no_path_below side parts.pins parts.arcs spans starts into best tables.settled a b rest start best_a checked.2 in
+    no_path_below side parts.pins parts.arcs spans starts into best tables.settled a b rest start best_a checked.2 in
     let rests = left-some (coming side parts.arcs spans into best c) (get_or ends c.0 None) (get_or checks c.0 None) (base_of side problem.period) e k (start +ℤ steps) comes arrives needs in
     let at_least : pos 0 ≤ℤ (((rests.0 +ℤ e) +ℤ k) +ℤ base_of side problem.period) = enough c checked.1 _ rests.1 in
     let is = excess_is side problem spans a (b ∷ rest) in
@@ -100,7 +100,7 @@ excess_sum : (side : Side) (parts : Parts) (spans : Spans) (rest : List PinNo) (
     (own start sum e k base v : ℤ) → own ≡ start → start +ℤ signed_steps side parts.arcs spans first rest ≡ sum →
     e ≡ weight (opposite side) (capture_at parts spans c) → k ≡ neg_ℤ (check_at side parts spans c) → ((sum +ℤ e) +ℤ k) +ℤ base ≡ v →
     (((own +ℤ signed_steps side parts.arcs spans first rest) +ℤ weight (opposite side) (capture_at parts spans (last_pin first rest)))
-        +ℤ neg_ℤ (check_at side parts spans (last_pin first rest))) +ℤ base ≡ v
+    +ℤ neg_ℤ (check_at side parts spans (last_pin first rest))) +ℤ base ≡ v
 excess_sum side parts spans rest first c last own start sum e k base v is_own value is_e is_k total =
     rw last (omega (arith, ints))
 
@@ -121,19 +121,19 @@ found_excess side problem spans into starts best ends checks tables valid number
     let begins : least_at parts.launches (map (weight side) spans.launch) f.first ≡ Some f.start = sym (tables.begins f.first first_below) ∙ f.begins in
     let launch : IsListed parts.launches f.first = listed_from_least parts.launches (map (weight side) spans.launch) f.first f.start begins in
     let hulled : weight side (hull_of (items_at parts.launches spans.launch f.first)) ≡ f.start =
-        same_Some _ _ (sym (least_at-weights side parts.launches spans.launch f.first valid.launch_each launch) ∙ begins) in
+    same_Some _ _ (sym (least_at-weights side parts.launches spans.launch f.first valid.launch_each launch) ∙ begins) in
     let arrives : left_is.1 ≡ weight (opposite side) (capture_at parts spans c) =
-        same_Some _ _ (sym left_is.4 ∙ tables.arrives c c_below ∙ least_at-weights (opposite side) parts.captures spans.capture c valid.capture_each (listed parts.captures c at)) in
+    same_Some _ _ (sym left_is.4 ∙ tables.arrives c c_below ∙ least_at-weights (opposite side) parts.captures spans.capture c valid.capture_each (listed parts.captures c at)) in
     let needs : left_is.2 ≡ neg_ℤ (check_at side parts spans c) =
-        same_Some _ _ (sym left_is.5 ∙ tables.needs c c_below ∙ least_at-negated parts.captures (checks_of side spans) c (checks_each side problem spans valid) (listed parts.captures c at)) in
+    same_Some _ _ (sym left_is.5 ∙ tables.needs c c_below ∙ least_at-negated parts.captures (checks_of side spans) c (checks_each side problem spans valid) (listed parts.captures c at)) in
     let total = left_is.6 in
     let value = f.value in
     let is : excess side problem spans no_buffers (f.first ∷ f.second ∷ f.rest) ≡ v =
-        excess_is side problem spans f.first (f.second ∷ f.rest)
-            ∙ excess_sum side parts spans (f.second ∷ f.rest) f.first c f.last (weight side (hull_of (items_at parts.launches spans.launch f.first))) f.start left_is.0 left_is.1 left_is.2 (base_of side problem.period) v hulled value arrives needs total in
+    excess_is side problem spans f.first (f.second ∷ f.rest)
+    ∙ excess_sum side parts spans (f.second ∷ f.rest) f.first c f.last (weight side (hull_of (items_at parts.launches spans.launch f.first))) f.start left_is.0 left_is.1 left_is.2 (base_of side problem.period) v hulled value arrives needs total in
     let checked : IsCheckedPath parts (f.first ∷ f.second ∷ f.rest) =
-        ((launch.place, launch.below, launch.at), subst (Contains parts.captures) (sym f.last) at, f.next) in
+    ((launch.place, launch.below, launch.at), subst (Contains parts.captures) (sym f.last) at, f.next) in
     record {
       checked = subst (IsCheckedPath parts) (sym f.split) checked;
-      is = ap (λ (p : List PinNo). excess side problem spans no_buffers p) f.split ∙ is
+      is = ap (λ (p : List PinNo). excess side problem spans no_buffers p) f.split ∙ is;
     }

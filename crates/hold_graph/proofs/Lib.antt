@@ -3,3 +3,5 @@ pub mod Starts
 pub mod Steps
 pub mod Walks
 pub mod Excess
+pub mod Places
+pub mod Orders

@@ -74,7 +74,7 @@ pub least_at-weights : (side : Side) (pins : List PinNo) (spans : List Interval)
     least_at pins (map (weight side) spans) pin ≡ Some (weight side (hull_of (items_at pins spans pin)))
 least_at-weights side pins spans pin len h =
     ap (λ (xs : List ℤ). least_from None xs) (items_at-map (weight side) pins spans pin)
-        ∙ least-weights side (items_at pins spans pin) (items_at-listed pins spans pin h.place len h.below h.at)
+    ∙ least-weights side (items_at pins spans pin) (items_at-listed pins spans pin h.place len h.below h.at)
 
 -- a listed pin has the greatest of its times, negated
 pub least_at-negated : (pins : List PinNo) (times : List ℤ) (pin : PinNo) →
@@ -82,7 +82,7 @@ pub least_at-negated : (pins : List PinNo) (times : List ℤ) (pin : PinNo) →
     least_at pins (map neg_ℤ times) pin ≡ Some (neg_ℤ (greatest_of (items_at pins times pin)))
 least_at-negated pins times pin len h =
     ap (λ (xs : List ℤ). least_from None xs) (items_at-map neg_ℤ pins times pin)
-        ∙ least-negated (items_at pins times pin) (items_at-listed pins times pin h.place len h.below h.at)
+    ∙ least-negated (items_at pins times pin) (items_at-listed pins times pin h.place len h.below h.at)
 
 some_item : (xs : List ℤ) (least : ℤ) → least_from None xs ≡ Some least → IsSomeItem xs
 some_item [] least e = cc

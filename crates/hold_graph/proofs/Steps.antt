@@ -24,7 +24,7 @@ spans_between-none [] spans a b none = refl
 spans_between-none (arc ∷ arcs) [] a b none = refl
 spans_between-none (arc ∷ arcs) (span ∷ spans) a b none =
     skipped (arc.from.0 == a.0) (arc.to.0 == b.0) (λ e. none 0 arc refl (grind arith)) span (spans_between arcs spans a b)
-        (spans_between-none arcs spans a b (λ k c at e. none (suc k) c at e))
+    (spans_between-none arcs spans a b (λ k c at e. none (suc k) c at e))
   where
     skipped : (from to : Bool) → (to ≡ true → ⊥) → (span : Interval) (rest : List Interval) → rest ≡ [] →
         cond (from && to) (span ∷ rest) rest ≡ []
@@ -48,8 +48,8 @@ spans_between-one (x ∷ arcs) (span ∷ spans) zero arc d once len at =
     let from : (x.from.0 == arc.from.0) ≡ true = eq-eqb x.from.0 arc.from.0 (ap (λ (y : Arc). y.from.0) same) in
     let to : (x.to.0 == arc.to.0) ≡ true = eq-eqb x.to.0 arc.to.0 (ap (λ (y : Arc). y.to.0) same) in
     taken (x.from.0 == arc.from.0) (x.to.0 == arc.to.0) from to span (spans_between arcs spans arc.from arc.to)
-        (spans_between-none arcs spans arc.from arc.to
-            (λ k c at_k e. let s : 0 ≡ suc k = once 0 (suc k) x c refl at_k (same_pin x.to c.to (ap (λ (y : Arc). y.to.0) same ∙ sym e)) in omega arith))
+    (spans_between-none arcs spans arc.from arc.to
+    (λ k c at_k e. let s : 0 ≡ suc k = once 0 (suc k) x c refl at_k (same_pin x.to c.to (ap (λ (y : Arc). y.to.0) same ∙ sym e)) in omega arith))
   where
     taken : (from to : Bool) → from ≡ true → to ≡ true → (span : Interval) (rest : List Interval) → rest ≡ [] →
         cond (from && to) (span ∷ rest) rest ≡ span ∷ []
@@ -58,9 +58,9 @@ spans_between-one (x ∷ arcs) (span ∷ spans) zero arc d once len at =
     taken false to e f span rest h = cc
 spans_between-one (x ∷ arcs) (span ∷ spans) (suc k) arc d once len at =
     passed (x.from.0 == arc.from.0) (x.to.0 == arc.to.0)
-        (λ e. let s : 0 ≡ suc k = once 0 (suc k) x arc refl at (same_pin x.to arc.to (grind arith)) in omega arith)
-        span (spans_between arcs spans arc.from arc.to) (get_or spans k d ∷ [])
-        (spans_between-one arcs spans k arc d (EndsOnce-tail x arcs once) (omega arith) at)
+    (λ e. let s : 0 ≡ suc k = once 0 (suc k) x arc refl at (same_pin x.to arc.to (grind arith)) in omega arith)
+    span (spans_between arcs spans arc.from arc.to) (get_or spans k d ∷ [])
+    (spans_between-one arcs spans k arc d (EndsOnce-tail x arcs once) (omega arith) at)
   where
     passed : (from to : Bool) → (to ≡ true → ⊥) → (span : Interval) (rest one : List Interval) → rest ≡ one →
         cond (from && to) (span ∷ rest) rest ≡ one
@@ -98,4 +98,4 @@ step_of-arc side arcs spans k arc once len at =
     let one : spans_between arcs spans.arcs arc.from arc.to ≡ span ∷ [] = spans_between-one arcs spans.arcs k arc none once len at in
     let hulled : end_of side (hull_of (spans_between arcs spans.arcs arc.from arc.to)) ≡ end_of side span = ap (λ (xs : List Interval). end_of side (hull_of xs)) one in
     signed-with_none side (end_of side (hull_of (spans_between arcs spans.arcs arc.from arc.to))) (added_from side 0 spans.kinds (λ kind. 0)) (added_from-none side 0 spans.kinds)
-        ∙ ap (signed side) hulled ∙ sym (get_or-map (weight side) spans.arcs k none (pos 0) (omega arith))
+    ∙ ap (signed side) hulled ∙ sym (get_or-map (weight side) spans.arcs k none (pos 0) (omega arith))

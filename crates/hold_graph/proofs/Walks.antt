@@ -14,7 +14,7 @@ use Rattle.hold_graph.specs.declared.problem.Spans.{Spans}
 use Rattle.hold_graph.specs.Graph.{EndsOnce}
 use Rattle.hold_graph.specs.Path.{HasArc, EachNext, last_pin}
 use Rattle.hold_graph.specs.Sums.{no_buffers, steps_sum}
-use Rattle.hold_graph.specs.Arrival.{signed, weight, lesser, AtMost, extended, origin, offer, IsInto, IsRight, coming, signed_steps, IsSettled, IsFound, CameBy}
+use Rattle.hold_graph.specs.Arrival.{signed, weight, lesser, AtMost, extended, origin, offer, IsRight, coming, signed_steps, IsSettled, IsFound, CameBy}
 use Rattle.hold_graph.proofs.Steps.{step_of, step_of-arc, signed-add}
 
 AtMost-extended : (o : Option ℤ) (x w : ℤ) → AtMost o x → AtMost (extended o w) (x +ℤ w)
@@ -55,8 +55,8 @@ coming-arc side pins arcs spans starts into best h place arc at =
     let e : get_or into arc.to.0 None ≡ Some place = h.places.ends place arc at in
     let weights : List ℤ = map (weight side) spans.arcs in
     ap (offer arcs weights best) e
-        ∙ ap (λ (o : Option Arc). extended (get_or best (origin o) None) (get_or weights place (pos 0))) at
-        ∙ ap (extended (get_or best arc.from.0 None)) (sym step)
+    ∙ ap (λ (o : Option Arc). extended (get_or best (origin o) None) (get_or weights place (pos 0))) at
+    ∙ ap (extended (get_or best arc.from.0 None)) (sym step)
 
 -- the same for a step's pins
 comes : (side : Side) (pins : ℕ) (arcs : List Arc) (spans : Spans) (starts : List (Option ℤ)) (into : List (Option ℕ)) (best : List (Option ℤ)) →
@@ -91,22 +91,22 @@ no_path_below side pins arcs spans starts into best h a b [] x least next =
     let more = signed_steps-cons side arcs spans a b [] in
     let zero = signed-zero side in
     AtMost-same _ _ (x +ℤ signed_steps side arcs spans a (b ∷ [])) (x +ℤ step_of side arcs spans a b)
-        (comes side pins arcs spans starts into best h a b (place_of arcs a b next.0)) (omega (arith, ints, more, zero))
-        (AtMost-extended (get_or best a.0 None) x (step_of side arcs spans a b) least)
+    (comes side pins arcs spans starts into best h a b (place_of arcs a b next.0)) (omega (arith, ints, more, zero))
+    (AtMost-extended (get_or best a.0 None) x (step_of side arcs spans a b) least)
 no_path_below side pins arcs spans starts into best h a b (c ∷ rest) x least next =
     let more = signed_steps-cons side arcs spans a b (c ∷ rest) in
     let place : IsPlace arcs a b = place_of arcs a b next.0 in
     let step : ℤ = step_of side arcs spans a b in
     let comes_b : AtMost (coming side arcs spans into best b) (x +ℤ step) =
-        AtMost-same _ _ (x +ℤ step) (x +ℤ step) (comes side pins arcs spans starts into best h a b place) refl
-            (AtMost-extended (get_or best a.0 None) x step least) in
+    AtMost-same _ _ (x +ℤ step) (x +ℤ step) (comes side pins arcs spans starts into best h a b place) refl
+    (AtMost-extended (get_or best a.0 None) x step least) in
     let right : IsRight arcs (map (weight side) spans.arcs) starts into best b.0 = h.right b.0 (to_below side pins arcs spans starts into best h a b place) in
     let best_b : AtMost (get_or best b.0 None) (x +ℤ step) =
-        AtMost-same _ _ (x +ℤ step) (x +ℤ step) right.is refl
-            (AtMost-lesser_right (get_or starts b.0 None) (coming side arcs spans into best b) (x +ℤ step) comes_b) in
+    AtMost-same _ _ (x +ℤ step) (x +ℤ step) right.is refl
+    (AtMost-lesser_right (get_or starts b.0 None) (coming side arcs spans into best b) (x +ℤ step) comes_b) in
     AtMost-same (coming side arcs spans into best (last_pin c rest)) (coming side arcs spans into best (last_pin c rest))
-        (x +ℤ signed_steps side arcs spans a (b ∷ c ∷ rest)) ((x +ℤ step) +ℤ signed_steps side arcs spans b (c ∷ rest)) refl (omega (arith, ints, more))
-        (no_path_below side pins arcs spans starts into best h b c rest (x +ℤ step) best_b next.1)
+    (x +ℤ signed_steps side arcs spans a (b ∷ c ∷ rest)) ((x +ℤ step) +ℤ signed_steps side arcs spans b (c ∷ rest)) refl (omega (arith, ints, more))
+    (no_path_below side pins arcs spans starts into best h b c rest (x +ℤ step) best_b next.1)
 
 -- the best at a pin is at most its own start
 pub start_at_most : (arcs : List Arc) (weights : List ℤ) (starts : List (Option ℤ)) (into : List (Option ℕ)) (best : List (Option ℤ)) (pin : ℕ) (x : ℤ) →
@@ -140,14 +140,14 @@ tail_more side pins arcs spans starts into best h pin rest capture sum place arc
     let to : arc.to ≡ pin = same_pin arc.to pin (ap (λ (x : Arc). x.to.0) same ∙ ends.2) in
     let there : IsPlace arcs arc.from pin = record { place = place; arc = arc; is = at; from = refl; to = to } in
     let arrives : HasArc arcs arc.from pin =
-        record { arc = arc; listed = (place, slice_get_within arcs place arc at, get_or_from_slice_get arcs place arc arc at); from = refl; to = to } in
+    record { arc = arc; listed = (place, slice_get_within arcs place arc at, get_or_from_slice_get arcs place arc arc at); from = refl; to = to } in
     record {
       next = (arrives, next);
       last = last;
       value = ap (extended (get_or best arc.from.0 None)) (signed_steps-cons side arcs spans arc.from pin rest)
-        ∙ sym (extended-extended (get_or best arc.from.0 None) (step_of side arcs spans arc.from pin) (signed_steps side arcs spans pin rest))
-        ∙ ap (λ (o : Option ℤ). extended o (signed_steps side arcs spans pin rest)) (sym (comes side pins arcs spans starts into best h arc.from pin there))
-        ∙ value
+          ∙ sym (extended-extended (get_or best arc.from.0 None) (step_of side arcs spans arc.from pin) (signed_steps side arcs spans pin rest))
+          ∙ ap (λ (o : Option ℤ). extended o (signed_steps side arcs spans pin rest)) (sym (comes side pins arcs spans starts into best h arc.from pin there))
+          ∙ value;
     }
 
 -- the first step back, from a capture to which a number comes
@@ -158,8 +158,8 @@ pub tail_start : (side : Side) (pins : ℕ) (arcs : List Arc) (spans : Spans) (s
     IsTail side arcs spans best arc.from (capture ∷ []) capture sum
 tail_start side pins arcs spans starts into best h capture sum place arc in_place at comes_there =
     tail_more side pins arcs spans starts into best h capture [] capture sum place arc in_place at tt refl
-        (ap (λ (o : Option ℤ). extended o (signed side (pos 0))) comes_there
-            ∙ ap (λ (z : ℤ). Some z) (let zero = signed-zero side in omega (arith, ints, zero)))
+    (ap (λ (o : Option ℤ). extended o (signed side (pos 0))) comes_there
+    ∙ ap (λ (z : ℤ). Some z) (let zero = signed-zero side in omega (arith, ints, zero)))
 
 -- where a walk begins at the pin: its start and the steps after it have the sum
 pub record IsBegun (side : Side) (arcs : List Arc) (spans : Spans) (starts : List (Option ℤ)) (pin : PinNo) (rest : List PinNo) (sum : ℤ) : Type 0 where
@@ -176,7 +176,7 @@ pub tail_end : (side : Side) (arcs : List Arc) (spans : Spans) (starts best : Li
     IsBegun side arcs spans starts pin rest sum
 tail_end side arcs spans starts best pin rest capture sum tail own =
     let begun = begun_from (get_or starts pin.0 None) (signed_steps side arcs spans pin rest) sum
-        (ap (λ (o : Option ℤ). extended o (signed_steps side arcs spans pin rest)) (sym own) ∙ tail.value) in
+    (ap (λ (o : Option ℤ). extended o (signed_steps side arcs spans pin rest)) (sym own) ∙ tail.value) in
     record { start = begun.0; is = begun.1; value = begun.2 }
 
 -- the state of the walk back at a pin: `by` is the place of the arc to go back along, and none where the walk begins
@@ -196,13 +196,13 @@ pub back_none : (side : Side) (arcs : List Arc) (spans : Spans) (starts : List (
     coming side arcs spans into best capture ≡ Some sum →
     IsBack side arcs spans starts into best capture [] (get_or into capture.0 None) capture sum
 back_none side arcs spans starts into best capture sum comes_there = record {
-    next = tt;
-    last = refl;
-    begun = λ e. absurd (none-some sum (sym (coming-none side arcs spans into best capture e) ∙ comes_there));
-    place = λ k e. e;
-    value = λ k e. ap (λ (o : Option ℤ). extended o (signed side (pos 0))) comes_there
-        ∙ ap (λ (z : ℤ). Some z) (let zero = signed-zero side in omega (arith, ints, zero))
-  }
+  next = tt;
+  last = refl;
+  begun = λ e. absurd (none-some sum (sym (coming-none side arcs spans into best capture e) ∙ comes_there));
+  place = λ k e. e;
+  value = λ k e. ap (λ (o : Option ℤ). extended o (signed side (pos 0))) comes_there
+      ∙ ap (λ (z : ℤ). Some z) (let zero = signed-zero side in omega (arith, ints, zero));
+}
 
 lesser-none : (o : Option ℤ) → lesser o None ≡ o
 lesser-none None = refl
@@ -224,8 +224,15 @@ found_begun : (side : Side) (arcs : List Arc) (spans : Spans) (starts best : Lis
 found_begun side arcs spans starts best pin second rest capture sum tail own =
     let begun = tail_end side arcs spans starts best pin (second ∷ rest) capture sum tail own in
     record {
-      first = pin; second = second; rest = rest; split = refl;
-      next = tail.next; last = tail.last; start = begun.start; begins = begun.is; value = begun.value
+      first = pin;
+      second = second;
+      rest = rest;
+      split = refl;
+      next = tail.next;
+      last = tail.last;
+      start = begun.start;
+      begins = begun.is;
+      value = begun.value;
     }
 
 -- where the best at a pin differs from its start, it is what comes there
@@ -253,20 +260,20 @@ back_more side pins arcs spans starts into best h pin rest k capture sum back ar
         CameBy (get_or best arc.from.0 None) (get_or starts arc.from.0 None) (get_or into arc.from.0 None) by →
         IsBack side arcs spans starts into best arc.from (pin ∷ rest) by capture sum
     by_case tail (inl here) = record {
-        next = tail.next;
-        last = tail.last;
-        begun = λ e. found_begun side arcs spans starts best arc.from pin rest capture sum tail here.0;
-        place = λ j e. absurd (none-some j (sym here.1 ∙ e));
-        value = λ j e. absurd (none-some j (sym here.1 ∙ e))
-      }
+      next = tail.next;
+      last = tail.last;
+      begun = λ e. found_begun side arcs spans starts best arc.from pin rest capture sum tail here.0;
+      place = λ j e. absurd (none-some j (sym here.1 ∙ e));
+      value = λ j e. absurd (none-some j (sym here.1 ∙ e));
+    }
     by_case tail (inr on) =
         let comes_here : get_or best arc.from.0 None ≡ coming side arcs spans into best arc.from =
-            best_comes side arcs spans starts into best arc.from (h.right arc.from.0 below) on.0 in
+        best_comes side arcs spans starts into best arc.from (h.right arc.from.0 below) on.0 in
         record {
           next = tail.next;
           last = tail.last;
           begun = λ e. absurd (on.0 ((h.right arc.from.0 below).is
-            ∙ ap (lesser (get_or starts arc.from.0 None)) (coming-none side arcs spans into best arc.from (sym on.1 ∙ e)) ∙ lesser-none (get_or starts arc.from.0 None)));
+              ∙ ap (lesser (get_or starts arc.from.0 None)) (coming-none side arcs spans into best arc.from (sym on.1 ∙ e)) ∙ lesser-none (get_or starts arc.from.0 None)));
           place = λ j e. sym on.1 ∙ e;
-          value = λ j e. ap (λ (o : Option ℤ). extended o (signed_steps side arcs spans arc.from (pin ∷ rest))) (sym comes_here) ∙ tail.value
+          value = λ j e. ap (λ (o : Option ℤ). extended o (signed_steps side arcs spans arc.from (pin ∷ rest))) (sym comes_here) ∙ tail.value;
         }

@@ -23,14 +23,14 @@ pub least_from-weights : (side : Side) (first : Interval) (spans : List Interval
 least_from-weights side first [] = refl
 least_from-weights side first (span ∷ spans) =
     ap (λ (w : ℤ). least_from (Some w) (map (weight side) spans)) (weight-hull side first span)
-        ∙ least_from-weights side (hull first span) spans
+    ∙ least_from-weights side (hull first span) spans
 
 pub least_from-negated : (first : ℤ) (times : List ℤ) →
     least_from (Some (neg_ℤ first)) (map neg_ℤ times) ≡ Some (neg_ℤ (fold int_max first times))
 least_from-negated first [] = refl
 least_from-negated first (time ∷ times) =
     ap (λ (w : ℤ). least_from (Some w) (map neg_ℤ times)) (int_min-neg first time)
-        ∙ least_from-negated (int_max first time) times
+    ∙ least_from-negated (int_max first time) times
 
 map-cond : {A B : Type 0} (f : A → B) (b : Bool) (xs ys : List A) → map f (cond b xs ys) ≡ cond b (map f xs) (map f ys)
 map-cond f true xs ys = refl
@@ -47,5 +47,5 @@ items_at-map f (p ∷ pins) [] pin = refl
 items_at-map f (p ∷ pins) (item ∷ items) pin =
     let rest = items_at-map f pins items pin in
     cond-same (p.0 == pin.0) (f item ∷ items_at pins (map f items) pin) (f item ∷ map f (items_at pins items pin))
-        (items_at pins (map f items) pin) (map f (items_at pins items pin)) (ap (λ xs. f item ∷ xs) rest) rest
-        ∙ sym (map-cond f (p.0 == pin.0) (item ∷ items_at pins items pin) (items_at pins items pin))
+    (items_at pins (map f items) pin) (map f (items_at pins items pin)) (ap (λ xs. f item ∷ xs) rest) rest
+    ∙ sym (map-cond f (p.0 == pin.0) (item ∷ items_at pins items pin) (items_at pins items pin))

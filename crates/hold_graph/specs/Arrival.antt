@@ -6,13 +6,12 @@
 -- lesser a b: the lesser of two numbers, either of which may be missing. least_from a xs: the lesser of a and of all xs.
 -- least_at pins numbers pin: the least of the numbers at those places where `pins` names the pin, none where there is
 --   no such place.
+-- AreWithin limit table: every number of the table is within the limit.
 -- AtMost a x: there is a number a, and it is at most x.
 -- extended a w: a plus w, where there is an a.
 -- offer arcs weights best place: what the arc at that place brings to the pin that it ends at, none without an arc.
--- IsInto arcs into: by pin, the place of the arc that ends there, and none where no arc does.
 -- IsRight arcs weights starts into best pin: the best at a pin is the lesser of its own start and of what comes there.
 -- CameBy best own place by: a walk goes back along the arc at `by`. It begins here where the best is the pin's own start.
--- IsOrder pins ranks order: the order has each of so many pins and no other, and ranks never fall along it.
 -- coming side arcs spans into best pin: what the arc that ends at a pin brings there, none where no arc does.
 -- signed_steps side arcs spans a rest: the steps of a path from a on with no buffers, as the pass adds them.
 -- IsSettled: the tables of one side after the pass: each pin's best is right.
@@ -23,7 +22,7 @@
 -- left_at: what is left at a capture by these tables.
 -- IsFound path capture sum: the path has at least two pins, each next by an arc, ends at the capture, and what its first
 --   pin has by itself and its steps add up to the sum.
-use Rattle.std.specs.Prelude.{◌≡◌, ◌≢◌, ◌⊎◌, ℕ, ◌<◌, ◌≤◌, List, [], ◌∷◌, map, length, Option, Some, None, slice_get, slice_index, slice_index_or, ℤ, pos, neg_ℤ, ◌+ℤ◌, ◌≤ℤ◌, Contains, All}
+use Rattle.std.specs.Prelude.{◌≡◌, ◌≢◌, ◌⊎◌, ℕ, ◌<◌, ◌≤◌, List, [], ◌∷◌, map, length, ◌^◌, Option, Some, None, slice_get, slice_index, slice_index_or, ℤ, pos, neg_ℤ, ◌+ℤ◌, ◌≤ℤ◌, Contains, All}
 use Rattle.std.specs.Int.{int_min}
 use Rattle.std.specs.List.Sorted.{IsNonDecreasingBy}
 use Rattle.hold_base.specs.declared.number.PinNo.{PinNo}
@@ -34,6 +33,8 @@ use Rattle.hold_graph.specs.declared.graph.Arc.{Arc}
 use Rattle.hold_graph.specs.declared.graph.Parts.{Parts}
 use Rattle.hold_graph.specs.declared.problem.Spans.{Spans}
 use Rattle.hold_graph.specs.Graph.{EndsOnce}
+use Rattle.hold_graph.specs.Order.{IsInto}
+use Rattle.hold_graph.specs.Problem.{IsWithin}
 use Rattle.hold_graph.specs.Path.{EachNext, last_pin}
 use Rattle.hold_graph.specs.Sums.{end_of, items_at, steps_sum, no_buffers}
 
@@ -78,18 +79,8 @@ offer arcs weights best None = None
 offer arcs weights best (Some place) =
     extended (slice_index_or best (origin (slice_get arcs place)) None) (slice_index_or weights place (pos 0))
 
-pub record IsInto (arcs : List Arc) (into : List (Option ℕ)) : Type 0 where
-  pub ends : (place : ℕ) (arc : Arc) → slice_get arcs place ≡ Some arc → slice_index_or into arc.to.0 None ≡ Some place
-  pub only : (pin place : ℕ) → slice_index_or into pin None ≡ Some place →
-    (arc : Arc) × (slice_get arcs place ≡ Some arc) × (arc.to.0 ≡ pin)
-
 pub record IsRight (arcs : List Arc) (weights : List ℤ) (starts : List (Option ℤ)) (into : List (Option ℕ)) (best : List (Option ℤ)) (pin : ℕ) : Type 0 where
   pub is : slice_index_or best pin None ≡ lesser (slice_index_or starts pin None) (offer arcs weights best (slice_index_or into pin None))
-
-pub record IsOrder (pins : ℕ) (ranks : List ℕ) (order : List PinNo) : Type 0 where
-  pub below : All (λ pin. pin.0 < pins) order
-  pub each : (pin : ℕ) → pin < pins → Contains order (record { 0 = pin })
-  pub rising : IsNonDecreasingBy (λ pin. slice_index ranks pin.0) order
 
 abbrev pub coming : Side → List Arc → Spans → List (Option ℕ) → List (Option ℤ) → PinNo → Option ℤ
 coming side arcs spans into best pin = offer arcs (map (weight side) spans.arcs) best (slice_index_or into pin.0 None)
@@ -146,3 +137,10 @@ pub record AreTables (side : Side) (parts : Parts) (spans : Spans) (into : List 
 abbrev pub left_at : Side → Parts → Spans → ℤ → List (Option ℕ) → List (Option ℤ) → List (Option ℤ) → List (Option ℤ) → PinNo → Option ℤ
 left_at side parts spans period into best ends checks capture =
     left (coming side parts.arcs spans into best capture) (slice_index_or ends capture.0 None) (slice_index_or checks capture.0 None) (base_of side period)
+
+abbrev pub AreWithin : ℕ → List (Option ℤ) → Type 0
+AreWithin limit table = (pin : ℕ) (time : ℤ) → slice_index_or table pin None ≡ Some time → IsWithin limit time
+
+-- the greatest magnitude of a sum over a path
+abbrev pub sum_limit : ℕ
+sum_limit = 2 ^ 55

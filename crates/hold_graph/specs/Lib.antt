@@ -4,3 +4,5 @@ pub mod Sums
 pub mod Problem
 pub mod Met
 pub mod Arrival
+pub mod Ordered
+pub mod Order

@@ -4,6 +4,8 @@
 
 mod graph;
 mod problem;
+mod side;
+mod table;
 mod worst;
 
 pub use graph::{Arc, Graph, Parts};
