@@ -5,3 +5,4 @@ pub mod Walks
 pub mod Excess
 pub mod Places
 pub mod Orders
+pub mod Pass

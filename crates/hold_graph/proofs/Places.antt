@@ -22,9 +22,9 @@ same_pin a b e = ap (λ (n : ℕ). let q : PinNo = record { 0 = n } in q) e
 pub into_more : (arcs : List Arc) (n : ℕ) (arc : Arc) (into : List (Option ℕ)) → EndsOnce arcs → slice_get arcs n ≡ Some arc → arc.to.0 < length into →
     IsIntoUpTo arcs n into → IsIntoUpTo arcs (n + 1) (set into arc.to.0 (Some n))
 into_more arcs n arc into once at below h = record {
-    ends = λ place a lt is. ends_case place a lt is (cases_eq place n);
-    only = λ pin place e. only_case pin place e (cases_eq pin arc.to.0)
-  }
+  ends = λ place a lt is. ends_case place a lt is (cases_eq place n);
+  only = λ pin place e. only_case pin place e (cases_eq pin arc.to.0);
+}
   where
     ends_case : (place : ℕ) (a : Arc) → place < n + 1 → slice_get arcs place ≡ Some a → ((place ≡ n) ⊎ (place ≡ n → ⊥)) → get_or (set into arc.to.0 (Some n)) a.to.0 None ≡ Some place
     ends_case place a lt is (inl e) =
@@ -32,7 +32,8 @@ into_more arcs n arc into once at below h = record {
         ap (λ (x : Arc). get_or (set into arc.to.0 (Some n)) x.to.0 None) same ∙ get_or-set_same into arc.to.0 (Some n) None below ∙ ap (λ (k : ℕ). Some k) (sym e)
     ends_case place a lt is (inr differs) =
         get_or-set_other into arc.to.0 a.to.0 (Some n) None (λ e. differs (once place n a arc is at (same_pin a.to arc.to e)))
-            ∙ h.ends place a (omega arith) is
+        ∙ h.ends place a (omega arith) is
+
     only_case : (pin place : ℕ) → get_or (set into arc.to.0 (Some n)) pin None ≡ Some place → ((pin ≡ arc.to.0) ⊎ (pin ≡ arc.to.0 → ⊥)) → (a : Arc) × (slice_get arcs place ≡ Some a) × (a.to.0 ≡ pin)
     only_case pin place e (inl same) =
         let is : n ≡ place = same_Some n place (sym (get_or-set_same into arc.to.0 (Some n) None below) ∙ ap (λ (k : ℕ). get_or (set into arc.to.0 (Some n)) k None) (sym same) ∙ e) in
@@ -42,6 +43,6 @@ into_more arcs n arc into once at below h = record {
 
 pub into_all : (arcs : List Arc) (n : ℕ) (into : List (Option ℕ)) → length arcs ≡ n → IsIntoUpTo arcs n into → IsInto arcs into
 into_all arcs n into len h = record {
-    ends = λ place arc is. h.ends place arc (let lt = slice_get_within arcs place arc is in omega arith) is;
-    only = h.only
-  }
+  ends = λ place arc is. h.ends place arc (let lt = slice_get_within arcs place arc is in omega arith) is;
+  only = h.only;
+}

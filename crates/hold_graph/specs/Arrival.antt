@@ -20,9 +20,12 @@
 -- left coming end check base: what is left at a capture, none where a part is missing.
 -- AreTables: what the tables of one side of a corner have, by pin.
 -- left_at: what is left at a capture by these tables.
+-- left_by: the same, by the steps' weights. IsEnough rest: where something is left, it is at least 0.
+-- IsShort side problem spans path short: the path is a checked path whose excess with no buffers is below 0 by `short`.
+-- IsMetAt side problem spans: each checked path meets the side's check with no buffers.
 -- IsFound path capture sum: the path has at least two pins, each next by an arc, ends at the capture, and what its first
 --   pin has by itself and its steps add up to the sum.
-use Rattle.std.specs.Prelude.{◌≡◌, ◌≢◌, ◌⊎◌, ℕ, ◌<◌, ◌≤◌, List, [], ◌∷◌, map, length, ◌^◌, Option, Some, None, slice_get, slice_index, slice_index_or, ℤ, pos, neg_ℤ, ◌+ℤ◌, ◌≤ℤ◌, Contains, All}
+use Rattle.std.specs.Prelude.{◌≡◌, ◌≢◌, ◌⊎◌, ℕ, ◌<◌, ◌≤◌, List, [], ◌∷◌, map, length, ◌^◌, Option, Some, None, slice_get, slice_index, slice_index_or, ℤ, pos, neg_ℤ, ◌+ℤ◌, ◌≤ℤ◌, ◌<ℤ◌, Contains, All}
 use Rattle.std.specs.Int.{int_min}
 use Rattle.std.specs.List.Sorted.{IsNonDecreasingBy}
 use Rattle.hold_base.specs.declared.number.PinNo.{PinNo}
@@ -32,10 +35,12 @@ use Rattle.hold_base.specs.declared.time.Side.TheVariants.{Early, Late}
 use Rattle.hold_graph.specs.declared.graph.Arc.{Arc}
 use Rattle.hold_graph.specs.declared.graph.Parts.{Parts}
 use Rattle.hold_graph.specs.declared.problem.Spans.{Spans}
+use Rattle.hold_graph.specs.declared.problem.Problem.{Problem}
+use Rattle.hold_graph.specs.Met.{excess}
 use Rattle.hold_graph.specs.Graph.{EndsOnce}
 use Rattle.hold_graph.specs.Order.{IsInto}
 use Rattle.hold_graph.specs.Problem.{IsWithin}
-use Rattle.hold_graph.specs.Path.{EachNext, last_pin}
+use Rattle.hold_graph.specs.Path.{EachNext, last_pin, IsCheckedPath}
 use Rattle.hold_graph.specs.Sums.{end_of, items_at, steps_sum, no_buffers}
 
 abbrev pub signed : Side → ℤ → ℤ
@@ -144,3 +149,18 @@ AreWithin limit table = (pin : ℕ) (time : ℤ) → slice_index_or table pin No
 -- the greatest magnitude of a sum over a path
 abbrev pub sum_limit : ℕ
 sum_limit = 2 ^ 55
+
+abbrev pub left_by : List Arc → List ℤ → ℤ → List (Option ℕ) → List (Option ℤ) → List (Option ℤ) → List (Option ℤ) → PinNo → Option ℤ
+left_by arcs steps base into best ends checks capture =
+    left (offer arcs steps best (slice_index_or into capture.0 None)) (slice_index_or ends capture.0 None) (slice_index_or checks capture.0 None) base
+
+abbrev pub IsEnough : Option ℤ → Type 0
+IsEnough rest = (time : ℤ) → rest ≡ Some time → pos 0 ≤ℤ time
+
+pub record IsShort (side : Side) (problem : Problem) (spans : Spans) (path : List PinNo) (short : ℤ) : Type 0 where
+  pub checked : IsCheckedPath problem.graph path
+  pub above : pos 0 <ℤ short
+  pub by : excess side problem spans no_buffers path ≡ neg_ℤ short
+
+abbrev pub IsMetAt : Side → Problem → Spans → Type 0
+IsMetAt side problem spans = (path : List PinNo) → IsCheckedPath problem.graph path → pos 0 ≤ℤ excess side problem spans no_buffers path

@@ -6,3 +6,4 @@ pub mod Met
 pub mod Arrival
 pub mod Ordered
 pub mod Order
+pub mod Tables

@@ -2,10 +2,14 @@
 //! checked, and the sums along a path.
 #![tactic(auto)]
 
+mod arrival;
 mod graph;
 mod problem;
 mod side;
+mod sums;
 mod table;
+mod tables;
+mod walk;
 mod worst;
 
 pub use graph::{Arc, Graph, Parts};

@@ -7,7 +7,7 @@ use Rattle.hold_graph.proofs.table.least_by_pin.Given as goal
 
 abbrev pub invariant-loop-place : goal.invariant-loop-place
 invariant-loop-place l = record {
-    len : length l.table.items ≡ l.pins;
-    rest : (pin : PinNo) → pin.0 < l.pins →
-        least_from (get_or l.table.items pin.0 None) (items_at (drop l.place l.listed) (drop l.place l.numbers) pin) ≡ least_at l.listed l.numbers pin
-  }
+  len : length l.table.items ≡ l.pins;
+  rest : (pin : PinNo) → pin.0 < l.pins →
+      least_from (get_or l.table.items pin.0 None) (items_at (drop l.place l.listed) (drop l.place l.numbers) pin) ≡ least_at l.listed l.numbers pin;
+}

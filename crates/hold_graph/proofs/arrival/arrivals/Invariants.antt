@@ -1,0 +1,14 @@
+use Rattle.std.proofs.Common.{◌≡◌, ℕ, ◌+◌, ◌*◌, ◌<◌, length}
+use Rattle.std.specs.Prelude.{Some, slice_get}
+use Rattle.hold_base.specs.declared.number.PinNo.{PinNo}
+use Rattle.hold_graph.specs.Problem.{launch_limit}
+use Rattle.hold_graph.specs.Arrival.{AreWithin, IsRight}
+use Rattle.hold_graph.proofs.Pass.{AreRightUpTo}
+use Rattle.hold_graph.proofs.arrival.arrivals.Given as goal
+
+abbrev pub invariant-loop-pin : goal.invariant-loop-pin
+invariant-loop-pin l = record {
+  len : length l.best.items ≡ l.line.pins;
+  within : AreWithin (launch_limit * (l.pin-index + 1)) l.best.items;
+  right : AreRightUpTo l.line.arcs.now l.steps l.starts l.line.into.now l.line.order.now l.pin-index l.best.items;
+}
