@@ -6,3 +6,4 @@ pub mod Excess
 pub mod Places
 pub mod Orders
 pub mod Pass
+pub mod Bounds

@@ -108,7 +108,7 @@ extended-within : (limit : ℕ) (o : Option ℤ) (w : ℤ) → OptionWithin limi
 extended-within limit None w h k = λ time is. absurd (none-some time is)
 extended-within limit (Some a) w h k = λ time is. subst (IsWithin (limit + launch_limit)) (same_Some (a +ℤ w) time is) (within_add limit launch_limit a w (h a refl) k)
 
-lesser-within : (limit : ℕ) (a b : Option ℤ) → OptionWithin limit a → OptionWithin limit b → OptionWithin limit (lesser a b)
+pub lesser-within : (limit : ℕ) (a b : Option ℤ) → OptionWithin limit a → OptionWithin limit b → OptionWithin limit (lesser a b)
 lesser-within limit None b h k = k
 lesser-within limit (Some x) None h k = h
 lesser-within limit (Some x) (Some y) h k = λ time is.
@@ -117,7 +117,7 @@ lesser-within limit (Some x) (Some y) h k = λ time is.
     let g : IsWithin limit y = k y refl in
     record { low = omega (arith, ints, clamps); high = omega (arith, ints, clamps) }
 
-offer-within : (arcs : List Arc) (steps : List ℤ) (best : List (Option ℤ)) (limit : ℕ) (place : Option ℕ) → ((k : ℕ) → place ≡ Some k → k < length steps) →
+pub offer-within : (arcs : List Arc) (steps : List ℤ) (best : List (Option ℤ)) (limit : ℕ) (place : Option ℕ) → ((k : ℕ) → place ≡ Some k → k < length steps) →
     All (IsWithin launch_limit) steps → AreWithin limit best → OptionWithin (limit + launch_limit) (offer arcs steps best place)
 offer-within arcs steps best limit None below h k = λ time is. absurd (none-some time is)
 offer-within arcs steps best limit (Some i) below h k =

@@ -277,3 +277,8 @@ back_more side pins arcs spans starts into best h pin rest k capture sum back ar
           place = λ j e. sym on.1 ∙ e;
           value = λ j e. ap (λ (o : Option ℤ). extended o (signed_steps side arcs spans arc.from (pin ∷ rest))) (sym comes_here) ∙ tail.value;
         }
+
+-- a walk that goes on goes along the arc that ends at the pin
+pub came_place : (best own : Option ℤ) (place by : Option ℕ) (k : ℕ) → CameBy best own place by → by ≡ Some k → place ≡ Some k
+came_place best own place by k (inl here) is = absurd (none-some k (sym here.1 ∙ is))
+came_place best own place by k (inr on) is = sym on.1 ∙ is

@@ -21,7 +21,12 @@ fn extended(sum: Option<i64>, step: i64) -> Option<i64>
 }
 
 /// What the arc at that place brings to the pin that it ends at.
-fn offer(arcs: &[Arc], steps: &[i64], best: &[Option<i64>], place: Option<usize>) -> Option<i64>
+pub(crate) fn offer(
+    arcs: &[Arc],
+    steps: &[i64],
+    best: &[Option<i64>],
+    place: Option<usize>,
+) -> Option<i64>
     requires place { (k : ℕ) → place ≡ Some k → k < length arcs.now }
     requires each { length steps.now ≡ length arcs.now }
     requires from { All (λ arc. arc.from.0 < length best.now) arcs.now }

@@ -5,8 +5,8 @@
 mod arrival;
 mod graph;
 mod problem;
+mod short;
 mod side;
-mod sums;
 mod table;
 mod tables;
 mod walk;
