@@ -1,8 +1,8 @@
 -- How large the numbers of the tables get.
 use Rattle.std.proofs.Common.{◌≡◌, ℕ, zero, suc, ◌+◌, ◌<◌, ◌≤◌, ◌==◌, List, [], ◌∷◌, map, length, Bool, true, false, cond, refl, ap, sym, ◌∙◌, arith, get_or, subst}
-use Rattle.std.specs.Prelude.{Option, Some, None, ℤ, pos, neg_ℤ, ◌≤ℤ◌, All}
+use Rattle.std.specs.Prelude.{Option, Some, None, ℤ, pos, neg_ℤ, ◌+ℤ◌, ◌≤ℤ◌, ◌^◌, All}
 use Rattle.std.proofs.lemmas.Int.{ints}
-use Rattle.std.proofs.lemmas.List.{get_or_past}
+use Rattle.std.proofs.lemmas.List.{get_or_default}
 use Rattle.std.proofs.lemmas.List.Elements.{All-head, All-tail, All-nil, All-cons, All-map, All-weaker}
 use Rattle.std.proofs.lemmas.Option.{same_Some, none-some}
 use Rattle.hold_base.specs.declared.number.PinNo.{PinNo}
@@ -12,9 +12,11 @@ use Rattle.hold_base.specs.declared.time.Side.TheVariants.{Early, Late}
 use Rattle.hold_graph.specs.declared.problem.Spans.{Spans}
 use Rattle.hold_graph.specs.declared.problem.Problem.{Problem}
 use Rattle.hold_graph.specs.Problem.{IsWithin, IsSpan, IsValidCorner, launch_limit, time_limit}
+use Rattle.hold_graph.specs.declared.graph.Arc.{Arc}
+use Rattle.hold_graph.specs.Order.{IsInto}
 use Rattle.hold_graph.specs.Sums.{items_at}
-use Rattle.hold_graph.specs.Arrival.{weight, lesser, least_from, least_at, IsLeastByPin, AreWithin, checks_of}
-use Rattle.hold_graph.proofs.Pass.{OptionWithin, lesser-within, within_weaker}
+use Rattle.hold_graph.specs.Arrival.{weight, lesser, least_from, least_at, IsLeastByPin, AreWithin, checks_of, left, offer, sum_limit}
+use Rattle.hold_graph.proofs.Pass.{OptionWithin, lesser-within, offer-within, place_below, within_weaker}
 
 within-neg : (limit : ℕ) (time : ℤ) → IsWithin limit time → IsWithin limit (neg_ℤ time)
 within-neg limit time h = record { low = omega (arith, ints); high = omega (arith, ints) }
@@ -74,3 +76,30 @@ table-within limit pins listed numbers table len least h = λ pin time is.
 pub checks-within : (side : Side) (problem : Problem) (spans : Spans) → IsValidCorner problem spans → All (IsWithin time_limit) (checks_of side spans)
 checks-within Early problem spans valid = valid.hold
 checks-within Late problem spans valid = valid.setup
+
+-- what is left stays in its limit
+pub left-within : (comes end check : Option ℤ) (base : ℤ) → OptionWithin (sum_limit + launch_limit) comes → OptionWithin launch_limit end →
+    OptionWithin launch_limit check → IsWithin time_limit base → OptionWithin (2 ^ 57) (left comes end check base)
+left-within None end check base h e k b = λ time is. absurd (none-some time is)
+left-within (Some s) None check base h e k b = λ time is. absurd (none-some time is)
+left-within (Some s) (Some end) None base h e k b = λ time is. absurd (none-some time is)
+left-within (Some s) (Some end) (Some check) base h e k b = λ time is.
+    let same : (((s +ℤ end) +ℤ check) +ℤ base) ≡ time = same_Some _ time is in
+    let f : IsWithin (sum_limit + launch_limit) s = h s refl in
+    let g : IsWithin launch_limit end = e end refl in
+    let i : IsWithin launch_limit check = k check refl in
+    record { low = omega (arith, ints); high = omega (arith, ints) }
+
+-- what comes to a pin stays in its limit
+pub coming-within : (arcs : List Arc) (steps given : List ℤ) (best lent : List (Option ℤ)) (into : List (Option ℕ)) (pin : ℕ) (comes : Option ℤ) →
+    IsInto arcs into → length steps ≡ length arcs → All (IsWithin launch_limit) steps → AreWithin sum_limit best → given ≡ steps → lent ≡ best →
+    comes ≡ offer arcs given lent (get_or into pin None) → OptionWithin (sum_limit + launch_limit) comes
+coming-within arcs steps given best lent into pin comes places each steps_within best_within is_given is_lent is =
+    subst (OptionWithin (sum_limit + launch_limit))
+        (sym (is ∙ ap (λ (xs : List ℤ). offer arcs xs lent (get_or into pin None)) is_given ∙ ap (λ (table : List (Option ℤ)). offer arcs steps table (get_or into pin None)) is_lent))
+        (offer-within arcs steps best sum_limit (get_or into pin None)
+            (λ k e. let lt : k < length arcs = place_below arcs into places pin k e in omega arith) steps_within best_within)
+
+-- what was read of a table is in its limit
+pub read-within : (table : List (Option ℤ)) (pin : ℕ) (o : Option ℤ) → pin < length table → o ≡ get_or table pin o → AreWithin launch_limit table → OptionWithin launch_limit o
+read-within table pin o below is h = λ time e. h pin time (get_or_default table pin None o below ∙ sym is ∙ e)

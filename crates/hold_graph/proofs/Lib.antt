@@ -7,3 +7,4 @@ pub mod Places
 pub mod Orders
 pub mod Pass
 pub mod Bounds
+pub mod Captures

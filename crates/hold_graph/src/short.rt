@@ -1,4 +1,4 @@
-ghost use Rattle.std.specs.Prelude.{◌≡◌, ◌+◌, ◌<◌, IfSome, IfNone, Some, All, Contains, pos, neg_ℤ, ◌<ℤ◌, ◌≤ℤ◌, ◌^◌};
+ghost use Rattle.std.specs.Prelude.{◌≡◌, ◌+◌, ◌<◌, IfSome, IfNone, Some, All, Contains, pos, neg_ℤ, ◌+ℤ◌, ◌<ℤ◌, ◌≤ℤ◌, ◌^◌};
 ghost use Rattle.hold_graph.specs.Graph.{AreBelow};
 ghost use Rattle.hold_graph.specs.Problem.{IsWithin, launch_limit, time_limit};
 ghost use Rattle.hold_graph.specs.Arrival.{base_of, left, left_by, sum_limit, IsEnough};
@@ -20,6 +20,17 @@ pub(crate) fn base(side: Side, period: i64) -> i64
     }
 }
 
+/// The sum of the four.
+fn total(coming: i64, end: i64, check: i64, base: i64) -> i64
+    requires coming { IsWithin (sum_limit + launch_limit) coming }
+    requires end { IsWithin launch_limit end }
+    requires check { IsWithin launch_limit check }
+    requires base { IsWithin time_limit base }
+    ensures { result ≡ ((coming +ℤ end) +ℤ check) +ℤ base }
+{
+    coming + end + check + base
+}
+
 /// What is left at a capture, none where nothing comes there.
 fn left(coming: Option<i64>, end: Option<i64>, check: Option<i64>, base: i64) -> Option<i64>
     requires coming { (s : _) → coming ≡ Some s → IsWithin (sum_limit + launch_limit) s }
@@ -29,7 +40,7 @@ fn left(coming: Option<i64>, end: Option<i64>, check: Option<i64>, base: i64) ->
     ensures { result ≡ left coming end check base }
 {
     match (coming, end, check) {
-        (Some(coming), Some(end), Some(check)) => Some(coming + end + check + base),
+        (Some(coming), Some(end), Some(check)) => Some(total(coming, end, check, base)),
         _ => None,
     }
 }
