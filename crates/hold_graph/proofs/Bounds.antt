@@ -1,6 +1,6 @@
 -- How large the numbers of the tables get.
 use Rattle.std.proofs.Common.{◌≡◌, ℕ, zero, suc, ◌+◌, ◌<◌, ◌≤◌, ◌==◌, List, [], ◌∷◌, map, length, Bool, true, false, cond, refl, ap, sym, ◌∙◌, arith, get_or, subst}
-use Rattle.std.specs.Prelude.{Option, Some, None, ℤ, pos, neg_ℤ, ◌+ℤ◌, ◌≤ℤ◌, ◌^◌, All}
+use Rattle.std.specs.Prelude.{Option, Some, None, ℤ, neg_ℤ, ◌+ℤ◌, ◌^◌, All}
 use Rattle.std.proofs.lemmas.Int.{ints}
 use Rattle.std.proofs.lemmas.List.{get_or_default}
 use Rattle.std.proofs.lemmas.List.Elements.{All-head, All-tail, All-nil, All-cons, All-map, All-weaker}
@@ -15,7 +15,7 @@ use Rattle.hold_graph.specs.Problem.{IsWithin, IsSpan, IsValidCorner, launch_lim
 use Rattle.hold_graph.specs.declared.graph.Arc.{Arc}
 use Rattle.hold_graph.specs.Order.{IsInto}
 use Rattle.hold_graph.specs.Sums.{items_at}
-use Rattle.hold_graph.specs.Arrival.{weight, lesser, least_from, least_at, IsLeastByPin, AreWithin, checks_of, left, offer, sum_limit}
+use Rattle.hold_graph.specs.Arrival.{weight, lesser, least_from, IsLeastByPin, AreWithin, checks_of, left, offer, sum_limit}
 use Rattle.hold_graph.proofs.Pass.{OptionWithin, lesser-within, offer-within, place_below, within_weaker}
 
 within-neg : (limit : ℕ) (time : ℤ) → IsWithin limit time → IsWithin limit (neg_ℤ time)
@@ -96,9 +96,9 @@ pub coming-within : (arcs : List Arc) (steps given : List ℤ) (best lent : List
     comes ≡ offer arcs given lent (get_or into pin None) → OptionWithin (sum_limit + launch_limit) comes
 coming-within arcs steps given best lent into pin comes places each steps_within best_within is_given is_lent is =
     subst (OptionWithin (sum_limit + launch_limit))
-        (sym (is ∙ ap (λ (xs : List ℤ). offer arcs xs lent (get_or into pin None)) is_given ∙ ap (λ (table : List (Option ℤ)). offer arcs steps table (get_or into pin None)) is_lent))
-        (offer-within arcs steps best sum_limit (get_or into pin None)
-            (λ k e. let lt : k < length arcs = place_below arcs into places pin k e in omega arith) steps_within best_within)
+    (sym (is ∙ ap (λ (xs : List ℤ). offer arcs xs lent (get_or into pin None)) is_given ∙ ap (λ (table : List (Option ℤ)). offer arcs steps table (get_or into pin None)) is_lent))
+    (offer-within arcs steps best sum_limit (get_or into pin None)
+    (λ k e. let lt : k < length arcs = place_below arcs into places pin k e in omega arith) steps_within best_within)
 
 -- what was read of a table is in its limit
 pub read-within : (table : List (Option ℤ)) (pin : ℕ) (o : Option ℤ) → pin < length table → o ≡ get_or table pin o → AreWithin launch_limit table → OptionWithin launch_limit o

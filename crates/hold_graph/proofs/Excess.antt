@@ -1,25 +1,22 @@
 -- From the tables of one side of a corner to the excess of its checked paths.
-use Rattle.std.proofs.Common.{◌≡◌, ℕ, ◌+◌, ◌<◌, List, [], ◌∷◌, map, length, refl, ap, sym, ◌∙◌, arith, get_or, subst}
-use Rattle.std.specs.Prelude.{Option, Some, None, ℤ, pos, neg_ℤ, ◌+ℤ◌, ◌≤ℤ◌, Contains, All, slice_index_or}
+use Rattle.std.proofs.Common.{◌≡◌, ℕ, ◌<◌, List, [], ◌∷◌, map, length, refl, ap, sym, ◌∙◌, arith, get_or, subst}
+use Rattle.std.specs.Prelude.{Option, Some, None, ℤ, pos, neg_ℤ, ◌+ℤ◌, ◌≤ℤ◌, Contains}
 use Rattle.std.proofs.lemmas.Int.{ints}
 use Rattle.std.proofs.lemmas.Option.{same_Some, none-some}
 use Rattle.std.proofs.lemmas.List.Elements.{All-contains}
-use Rattle.std.proofs.Math.IntN.{neg_ℤ-+ℤ}
 use Rattle.hold_base.specs.declared.number.PinNo.{PinNo}
-use Rattle.hold_base.specs.declared.time.Interval.{Interval}
 use Rattle.hold_base.specs.declared.time.Side.{Side}
 use Rattle.hold_base.specs.declared.time.Side.TheVariants.{Early, Late}
 use Rattle.hold_graph.specs.declared.graph.Parts.{Parts}
 use Rattle.hold_graph.specs.declared.problem.Spans.{Spans}
 use Rattle.hold_graph.specs.declared.problem.Problem.{Problem}
 use Rattle.hold_graph.specs.Graph.{IsNumbered}
-use Rattle.hold_graph.specs.Path.{EachNext, last_pin, end_pin, IsCheckedPath}
-use Rattle.hold_graph.specs.Sums.{no_buffers, hull_of, greatest_of, items_at, steps_sum, path_sum, end_of}
+use Rattle.hold_graph.specs.Path.{last_pin, IsCheckedPath}
+use Rattle.hold_graph.specs.Sums.{no_buffers, hull_of, greatest_of, items_at}
 use Rattle.hold_graph.specs.Problem.{IsValidCorner}
-use Rattle.hold_graph.specs.Met.{excess, early_excess, late_excess, capture_at, setup_at, hold_at}
-use Rattle.hold_graph.specs.Arrival.{least_at, signed, weight, opposite, AtMost, coming, signed_steps, IsSettled, IsFound, checks_of, base_of, left, AreTables, left_at}
+use Rattle.hold_graph.specs.Met.{excess, capture_at}
+use Rattle.hold_graph.specs.Arrival.{least_at, weight, opposite, AtMost, coming, signed_steps, IsFound, checks_of, base_of, left, AreTables, left_at}
 use Rattle.hold_graph.proofs.Starts.{IsListed, least_at-weights, least_at-negated, listed_from_least}
-use Rattle.hold_graph.proofs.Steps.{signed-add}
 use Rattle.hold_graph.proofs.Walks.{no_path_below, start_at_most}
 
 listed : (pins : List PinNo) (pin : PinNo) → Contains pins pin → IsListed pins pin

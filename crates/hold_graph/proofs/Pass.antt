@@ -1,17 +1,17 @@
 -- One turn of the pass: a pin's best is made from that of a pin of lower rank, and the pins of the turns before keep theirs.
-use Rattle.std.proofs.Common.{◌≡◌, ℕ, zero, suc, ◌+◌, ◌*◌, ◌^◌, ◌<◌, ◌≤◌, List, [], ◌∷◌, length, Bool, true, false, cond, refl, ap, sym, ◌∙◌, arith, get_or, set, ◌⊎◌, inl, inr, subst}
-use Rattle.std.specs.Prelude.{Option, Some, None, ℤ, pos, neg_ℤ, ◌+ℤ◌, ◌≤ℤ◌, All, slice_get, slice_index, slice_index_or}
+use Rattle.std.proofs.Common.{◌≡◌, ℕ, ◌+◌, ◌*◌, ◌<◌, ◌≤◌, List, length, refl, ap, sym, ◌∙◌, arith, get_or, set, ◌⊎◌, inl, inr, subst}
+use Rattle.std.specs.Prelude.{Option, Some, None, ℤ, pos, ◌+ℤ◌, All, slice_get, slice_index}
 use Rattle.std.specs.Int.{int_min}
 use Rattle.std.proofs.lemmas.Int.{ints, clamps}
 use Rattle.std.proofs.lemmas.Bool.{cases_eq}
-use Rattle.std.proofs.lemmas.List.{get_or-set_same, get_or-set_other, get_or_past, get_or_default}
+use Rattle.std.proofs.lemmas.List.{get_or-set_same, get_or-set_other}
 use Rattle.std.proofs.lemmas.Option.{slice_get-get_or, slice_get_read, slice_get_within, get_or_from_slice_get, same_Some, none-some}
 use Rattle.hold_base.specs.declared.number.PinNo.{PinNo}
 use Rattle.hold_graph.specs.declared.graph.Arc.{Arc}
 use Rattle.hold_graph.specs.Graph.{Rises}
 use Rattle.hold_graph.specs.Order.{IsInto, IsOrder}
 use Rattle.hold_graph.specs.Problem.{IsWithin, launch_limit}
-use Rattle.hold_graph.specs.Arrival.{lesser, extended, origin, offer, AreWithin, IsRight, sum_limit}
+use Rattle.hold_graph.specs.Arrival.{lesser, extended, origin, offer, AreWithin, IsRight}
 
 -- the pins of the first n turns are right
 pub record AreRightUpTo (arcs : List Arc) (steps : List ℤ) (starts : List (Option ℤ)) (into : List (Option ℕ)) (order : List PinNo) (n : ℕ) (best : List (Option ℤ)) : Type 0 where

@@ -1,15 +1,13 @@
 -- The table of the arcs that end at each pin, made arc by arc; and a table of least numbers, made number by number.
-use Rattle.std.proofs.Common.{◌≡◌, ℕ, zero, suc, ◌+◌, ◌<◌, ◌==◌, List, [], ◌∷◌, map, length, cond, Bool, true, false, refl, ap, sym, ◌∙◌, arith, get_or, set, drop, ◌⊎◌, inl, inr}
-use Rattle.std.specs.Prelude.{Option, Some, None, ℤ, slice_get, slice_index_or, All}
-use Rattle.std.proofs.lemmas.List.{get_or-set_same, get_or-set_other, drop_more, get_or_past}
-use Rattle.std.proofs.lemmas.Option.{slice_get_within, same_Some, none-some}
+use Rattle.std.proofs.Common.{◌≡◌, ℕ, ◌+◌, ◌<◌, List, length, ap, sym, ◌∙◌, arith, get_or, set, ◌⊎◌, inl, inr}
+use Rattle.std.specs.Prelude.{Option, Some, None, slice_get}
+use Rattle.std.proofs.lemmas.List.{get_or-set_same, get_or-set_other}
+use Rattle.std.proofs.lemmas.Option.{slice_get_within, same_Some}
 use Rattle.std.proofs.lemmas.Bool.{cases_eq}
 use Rattle.hold_base.specs.declared.number.PinNo.{PinNo}
 use Rattle.hold_graph.specs.declared.graph.Arc.{Arc}
 use Rattle.hold_graph.specs.Graph.{EndsOnce}
 use Rattle.hold_graph.specs.Order.{IsInto}
-use Rattle.hold_graph.specs.Sums.{items_at}
-use Rattle.hold_graph.specs.Arrival.{lesser, least_from}
 
 -- the table has the first n arcs
 pub record IsIntoUpTo (arcs : List Arc) (n : ℕ) (into : List (Option ℕ)) : Type 0 where

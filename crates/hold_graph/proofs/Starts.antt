@@ -1,12 +1,11 @@
 -- The least of what stands at a pin, for a pin that is listed and for one that is not.
-use Rattle.std.proofs.Common.{◌≡◌, ℕ, zero, suc, ◌+◌, ◌<◌, ◌==◌, List, [], ◌∷◌, map, length, cond, Bool, true, false, refl, ap, sym, ◌∙◌, arith, get_or, eq-eqb, eqb, ◌⊎◌, inl, inr}
-use Rattle.std.specs.Prelude.{Option, Some, None, ℤ, pos, neg_ℤ, ◌+ℤ◌, ◌-ℤ◌, fold, Contains, slice_index_or}
-use Rattle.std.proofs.lemmas.Grind.{common_steps}
+use Rattle.std.proofs.Common.{◌≡◌, ℕ, zero, suc, ◌<◌, ◌==◌, List, [], ◌∷◌, map, length, cond, Bool, true, false, refl, ap, ◌∙◌, arith, get_or, eq-eqb, ◌⊎◌, inl, inr}
+use Rattle.std.specs.Prelude.{Some, None, ℤ, neg_ℤ}
 use Rattle.hold_base.specs.declared.number.PinNo.{PinNo}
 use Rattle.hold_base.specs.declared.time.Interval.{Interval}
 use Rattle.hold_base.specs.declared.time.Side.{Side}
-use Rattle.hold_graph.specs.Sums.{end_of, hull, hull_of, greatest_of, items_at}
-use Rattle.hold_graph.specs.Arrival.{signed, weight, lesser, least_from, least_at}
+use Rattle.hold_graph.specs.Sums.{hull_of, greatest_of, items_at}
+use Rattle.hold_graph.specs.Arrival.{weight, least_from, least_at}
 use Rattle.hold_graph.proofs.Weights.{items_at-map, least_from-weights, least_from-negated}
 
 -- a list has an item

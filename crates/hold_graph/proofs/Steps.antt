@@ -1,6 +1,6 @@
 -- Where at most one arc ends at each pin, the step between two pins is that of the one arc.
-use Rattle.std.proofs.Common.{◌≡◌, ℕ, zero, suc, ◌+◌, ◌<◌, ◌==◌, ◌&&◌, List, [], ◌∷◌, map, length, cond, Bool, true, false, refl, ap, sym, ◌∙◌, arith, get_or, eq-eqb, eqb, ◌⊎◌, inl, inr}
-use Rattle.std.specs.Prelude.{Option, Some, None, ℤ, pos, neg_ℤ, ◌+ℤ◌, ◌*ℤ◌, Contains, slice_get}
+use Rattle.std.proofs.Common.{◌≡◌, ℕ, zero, suc, ◌+◌, ◌<◌, ◌==◌, ◌&&◌, List, [], ◌∷◌, map, length, cond, Bool, true, false, refl, ap, sym, ◌∙◌, arith, get_or, eq-eqb}
+use Rattle.std.specs.Prelude.{Some, ℤ, pos, ◌+ℤ◌, ◌*ℤ◌, slice_get}
 use Rattle.std.proofs.lemmas.Int.{ints}
 use Rattle.std.proofs.lemmas.List.{get_or-map}
 use Rattle.std.proofs.lemmas.Option.{slice_get_within}
@@ -12,7 +12,7 @@ use Rattle.hold_base.specs.declared.time.Side.TheVariants.{Early, Late}
 use Rattle.hold_graph.specs.declared.graph.Arc.{Arc}
 use Rattle.hold_graph.specs.declared.problem.Spans.{Spans}
 use Rattle.hold_graph.specs.Graph.{EndsOnce}
-use Rattle.hold_graph.specs.Sums.{end_of, hull_of, spans_between, no_buffers, added_from, steps_sum}
+use Rattle.hold_graph.specs.Sums.{end_of, hull_of, spans_between, added_from}
 use Rattle.hold_graph.specs.Arrival.{signed, weight}
 
 -- no arc of these ends at the pin

@@ -1,19 +1,15 @@
 -- From the equations that hold at each pin after the pass: no path's sum is below what comes to its end, and a walk back
 -- from a pin finds a path that has that sum.
-use Rattle.std.proofs.Common.{◌≡◌, ℕ, zero, suc, ◌+◌, ◌<◌, List, [], ◌∷◌, map, length, Bool, true, false, cond, refl, ap, sym, ◌∙◌, arith, get_or, subst, ◌⊎◌, inl, inr}
-use Rattle.std.specs.Prelude.{Option, Some, None, ℤ, pos, neg_ℤ, ◌+ℤ◌, ◌≤ℤ◌, Contains, All, slice_get, slice_index_or, int_lt}
-use Rattle.std.specs.Int.{int_min}
+use Rattle.std.proofs.Common.{◌≡◌, ℕ, ◌<◌, List, [], ◌∷◌, map, length, Bool, true, false, cond, refl, ap, sym, ◌∙◌, arith, get_or, ◌⊎◌, inl, inr}
+use Rattle.std.specs.Prelude.{Option, Some, None, ℤ, pos, ◌+ℤ◌, slice_get, slice_index_or, int_lt}
 use Rattle.std.proofs.lemmas.Int.{ints, clamps}
 use Rattle.std.proofs.lemmas.Option.{slice_get_within, slice_get_read, get_or_from_slice_get, same_Some, none-some}
 use Rattle.hold_base.specs.declared.number.PinNo.{PinNo}
-use Rattle.hold_base.specs.declared.time.Interval.{Interval}
 use Rattle.hold_base.specs.declared.time.Side.{Side}
 use Rattle.hold_base.specs.declared.time.Side.TheVariants.{Early, Late}
 use Rattle.hold_graph.specs.declared.graph.Arc.{Arc}
 use Rattle.hold_graph.specs.declared.problem.Spans.{Spans}
-use Rattle.hold_graph.specs.Graph.{EndsOnce}
 use Rattle.hold_graph.specs.Path.{HasArc, EachNext, last_pin}
-use Rattle.hold_graph.specs.Sums.{no_buffers, steps_sum}
 use Rattle.hold_graph.specs.Arrival.{signed, weight, lesser, AtMost, extended, origin, offer, IsRight, coming, signed_steps, IsSettled, IsFound, CameBy}
 use Rattle.hold_graph.proofs.Steps.{step_of, step_of-arc, signed-add}
 

@@ -1,14 +1,14 @@
 -- What signed ends and their least numbers have to do with hulls and greatest times.
-use Rattle.std.proofs.Common.{◌≡◌, ℕ, ◌+◌, ◌<◌, ◌==◌, List, [], ◌∷◌, map, length, cond, Bool, true, false, refl, ap, sym, ◌∙◌, arith}
-use Rattle.std.specs.Prelude.{Option, Some, None, ℤ, pos, neg_ℤ, ◌+ℤ◌, ◌-ℤ◌, fold, IsSome}
+use Rattle.std.proofs.Common.{◌≡◌, ◌==◌, List, [], ◌∷◌, map, cond, Bool, true, false, refl, ap, sym, ◌∙◌, arith}
+use Rattle.std.specs.Prelude.{Some, ℤ, neg_ℤ, fold}
 use Rattle.std.specs.Int.{int_min, int_max}
 use Rattle.std.proofs.lemmas.Int.{ints, clamps}
 use Rattle.hold_base.specs.declared.number.PinNo.{PinNo}
 use Rattle.hold_base.specs.declared.time.Interval.{Interval}
 use Rattle.hold_base.specs.declared.time.Side.{Side}
 use Rattle.hold_base.specs.declared.time.Side.TheVariants.{Early, Late}
-use Rattle.hold_graph.specs.Sums.{end_of, hull, hull_of, greatest_of, items_at}
-use Rattle.hold_graph.specs.Arrival.{signed, weight, lesser, least_from, least_at}
+use Rattle.hold_graph.specs.Sums.{hull, items_at}
+use Rattle.hold_graph.specs.Arrival.{weight, least_from}
 
 -- the least of negated numbers
 pub int_min-neg : (a b : ℤ) → int_min (neg_ℤ a) (neg_ℤ b) ≡ neg_ℤ (int_max a b)

@@ -25,9 +25,8 @@
 -- IsMetAt side problem spans: each checked path meets the side's check with no buffers.
 -- IsFound path capture sum: the path has at least two pins, each next by an arc, ends at the capture, and what its first
 --   pin has by itself and its steps add up to the sum.
-use Rattle.std.specs.Prelude.{◌≡◌, ◌≢◌, ◌⊎◌, ℕ, ◌<◌, ◌≤◌, List, [], ◌∷◌, map, length, ◌^◌, Option, Some, None, slice_get, slice_index, slice_index_or, ℤ, pos, neg_ℤ, ◌+ℤ◌, ◌≤ℤ◌, ◌<ℤ◌, Contains, All}
+use Rattle.std.specs.Prelude.{◌≡◌, ◌≢◌, ◌⊎◌, ℕ, ◌<◌, List, [], ◌∷◌, map, length, ◌^◌, Option, Some, None, slice_get, slice_index_or, ℤ, pos, neg_ℤ, ◌+ℤ◌, ◌≤ℤ◌, ◌<ℤ◌, All}
 use Rattle.std.specs.Int.{int_min}
-use Rattle.std.specs.List.Sorted.{IsNonDecreasingBy}
 use Rattle.hold_base.specs.declared.number.PinNo.{PinNo}
 use Rattle.hold_base.specs.declared.time.Interval.{Interval}
 use Rattle.hold_base.specs.declared.time.Side.{Side}

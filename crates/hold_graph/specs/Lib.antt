@@ -7,3 +7,4 @@ pub mod Arrival
 pub mod Ordered
 pub mod Order
 pub mod Tables
+pub mod Sites

@@ -1,10 +1,10 @@
-use Rattle.std.proofs.Common.{◌≡◌, ℕ, ◌<◌, ap, sym, ◌∙◌, arith, rules, get_or, length, subst}
-use Rattle.std.specs.Prelude.{List, Option, Some, None, ℤ}
+use Rattle.std.proofs.Common.{◌≡◌, ◌<◌, ap, sym, ◌∙◌, arith, rules, get_or, length, subst}
+use Rattle.std.specs.Prelude.{List, Option, None, ℤ}
 use Rattle.std.proofs.lemmas.Option.{slice_get-get_or}
 use Rattle.hold_base.specs.declared.number.PinNo.{PinNo}
 use Rattle.hold_graph.specs.Problem.{launch_limit}
 use Rattle.hold_graph.specs.Arrival.{AreWithin, lesser, offer, sum_limit}
-use Rattle.hold_graph.proofs.Pass.{IsPassOver, AreRightUpTo, right_none, right_more, right_all, within_more, AreWithin-weaker, place_below}
+use Rattle.hold_graph.proofs.Pass.{IsPassOver, right_none, right_more, right_all, within_more, AreWithin-weaker, place_below}
 use Rattle.hold_graph.proofs.arrival.arrivals.Goals as goal
 
 pub loop-pin-init : goal.loop-pin-init

@@ -1,8 +1,6 @@
-use Rattle.std.proofs.Common.{◌≡◌, ℕ, ◌+◌, ◌*◌, ◌<◌, length}
-use Rattle.std.specs.Prelude.{Some, slice_get}
-use Rattle.hold_base.specs.declared.number.PinNo.{PinNo}
+use Rattle.std.proofs.Common.{◌≡◌, ◌+◌, ◌*◌, length}
 use Rattle.hold_graph.specs.Problem.{launch_limit}
-use Rattle.hold_graph.specs.Arrival.{AreWithin, IsRight}
+use Rattle.hold_graph.specs.Arrival.{AreWithin}
 use Rattle.hold_graph.proofs.Pass.{AreRightUpTo}
 use Rattle.hold_graph.proofs.arrival.arrivals.Given as goal
 

@@ -1,7 +1,6 @@
-use Rattle.std.proofs.Common.{◌≡◌, ap, sym, ◌∙◌, arith}
-use Rattle.std.specs.Prelude.{Option, Some, ℤ, ◌+ℤ◌, FitsSigned}
+use Rattle.std.proofs.Common.{ap, sym, ◌∙◌, arith}
+use Rattle.std.specs.Prelude.{Option, Some, ℤ}
 use Rattle.std.proofs.lemmas.Int.{ints}
-use mir.Syntax.{w64}
 use Rattle.hold_graph.specs.Problem.{IsWithin}
 use Rattle.hold_graph.specs.Arrival.{sum_limit, extended}
 use Rattle.hold_graph.proofs.arrival.extended.Goals as goal

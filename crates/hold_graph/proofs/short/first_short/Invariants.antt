@@ -1,4 +1,4 @@
-use Rattle.std.proofs.Common.{ℕ, ◌<◌, take}
+use Rattle.std.proofs.Common.{take}
 use Rattle.std.specs.Prelude.{All}
 use Rattle.hold_base.specs.declared.number.PinNo.{PinNo}
 use Rattle.hold_graph.specs.Arrival.{left_by, IsEnough}

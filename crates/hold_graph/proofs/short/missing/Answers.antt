@@ -1,5 +1,5 @@
-use Rattle.std.proofs.Common.{◌≡◌, ap, sym, ◌∙◌, arith, ◌^◌}
-use Rattle.std.specs.Prelude.{Option, Some, ℤ, pos, ◌<ℤ◌}
+use Rattle.std.proofs.Common.{ap, ◌∙◌, arith, ◌^◌}
+use Rattle.std.specs.Prelude.{Some, ℤ, pos, ◌<ℤ◌}
 use Rattle.std.proofs.lemmas.Int.{ints}
 use Rattle.hold_graph.specs.Problem.{IsWithin}
 use Rattle.hold_graph.proofs.short.missing.Goals as goal

@@ -1,13 +1,10 @@
-use Rattle.std.proofs.Common.{◌≡◌, ℕ, ◌<◌, List, map, ap, sym, ◌∙◌, arith, rules, length, subst}
-use Rattle.std.specs.Prelude.{Option, ℤ, All, neg_ℤ}
-use Rattle.hold_base.specs.declared.time.Side.{Side}
+use Rattle.std.proofs.Common.{◌≡◌, List, map, ap, sym, ◌∙◌, arith, length, subst}
+use Rattle.std.specs.Prelude.{ℤ, All, neg_ℤ}
 use Rattle.hold_base.specs.declared.time.Interval.{Interval}
 use Rattle.std.proofs.lemmas.List.{length-map}
 use Rattle.hold_graph.specs.declared.graph.Arc.{Arc}
 use Rattle.hold_graph.specs.declared.graph.Parts.{Parts}
-use Rattle.hold_graph.specs.declared.problem.Spans.{Spans}
-use Rattle.hold_graph.specs.declared.problem.Problem.{Problem}
-use Rattle.hold_graph.specs.Problem.{IsWithin, IsSpan, IsValidCorner, launch_limit, time_limit}
+use Rattle.hold_graph.specs.Problem.{IsWithin, launch_limit, time_limit}
 use Rattle.hold_graph.specs.Arrival.{AreWithin, weight, checks_of}
 use Rattle.hold_graph.proofs.Bounds.{weights-within, negated-within, table-within, checks-within}
 use Rattle.hold_graph.proofs.tables.tables_of.Goals as goal

@@ -1,5 +1,5 @@
-use Rattle.std.proofs.Common.{◌≡◌, ℕ, ◌<◌, ◌∷◌, [], ◌++◌, ap, sym, ◌∙◌, arith, rules, get_or, length, subst}
-use Rattle.std.specs.Prelude.{List, Option, Some, None, ℤ, reverse, Bool, false}
+use Rattle.std.proofs.Common.{◌≡◌, ℕ, ◌<◌, ◌∷◌, [], ap, sym, ◌∙◌, get_or, length, subst}
+use Rattle.std.specs.Prelude.{List, Option, reverse, false}
 use Rattle.std.proofs.lemmas.List.{reverse-append}
 use Rattle.std.proofs.lemmas.Option.{slice_get-get_or}
 use Rattle.hold_base.specs.declared.number.PinNo.{PinNo}

@@ -1,4 +1,4 @@
-use Rattle.std.proofs.Common.{◌≡◌, ℕ, ◌<◌, get_or, length}
+use Rattle.std.proofs.Common.{◌≡◌, ℕ, ◌<◌, get_or}
 use Rattle.std.specs.Prelude.{reverse, None, Some, ℤ, slice_index}
 use Rattle.hold_base.specs.declared.time.Side.{Side}
 use Rattle.hold_graph.specs.declared.problem.Spans.{Spans}
