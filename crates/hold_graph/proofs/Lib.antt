@@ -1,0 +1,10 @@
+pub mod Weights
+pub mod Starts
+pub mod Steps
+pub mod Walks
+pub mod Excess
+pub mod Places
+pub mod Orders
+pub mod Pass
+pub mod Bounds
+pub mod Captures

@@ -1,0 +1,56 @@
+-- IsWithin limit time: the time is at most the limit in magnitude; it may be below 0.
+-- IsSpan limit span: the ends of the span stand in order, and both are within the limit.
+-- IsValidCorner problem spans: the spans of a corner have one entry for each arc, launch, capture and kind, all in
+--   order and within the limits; a kind's least is at least 0.
+-- IsValid problem: the problem is within the limits and each of its corners is valid. It has at least one corner; it may
+--   have no pin, no kind, no arc, launch or capture. Its graph may list a pin more than once.
+use Rattle.std.specs.Prelude.{◌≡◌, ℕ, ◌^◌, ◌≤◌, length, All, ℤ, pos, neg_ℤ, ◌≤ℤ◌}
+use Rattle.hold_base.specs.Interval.{IsOrdered}
+use Rattle.hold_base.specs.declared.time.Interval.{Interval}
+use Rattle.hold_graph.specs.declared.problem.Spans.{Spans}
+use Rattle.hold_graph.specs.declared.problem.Problem.{Problem}
+
+-- the greatest magnitude of a time: 10 us
+abbrev pub time_limit : ℕ
+time_limit = 10000000000
+
+-- the same for a launch, which is a clock arrival and a delay
+abbrev pub launch_limit : ℕ
+launch_limit = 20000000000
+
+pub record IsWithin (limit : ℕ) (time : ℤ) : Type 0 where
+  pub low : neg_ℤ (pos limit) ≤ℤ time
+  pub high : time ≤ℤ pos limit
+
+pub record IsSpan (limit : ℕ) (span : Interval) : Type 0 where
+  pub ordered : IsOrdered span
+  pub least : IsWithin limit span.least
+  pub greatest : IsWithin limit span.greatest
+
+pub record IsValidCorner (problem : Problem) (spans : Spans) : Type 0 where
+  pub arcs_each : length spans.arcs ≡ length problem.graph.arcs
+  pub launch_each : length spans.launch ≡ length problem.graph.launches
+  pub capture_each : length spans.capture ≡ length problem.graph.captures
+  pub setup_each : length spans.setup ≡ length problem.graph.captures
+  pub hold_each : length spans.hold ≡ length problem.graph.captures
+  pub kinds_each : length spans.kinds ≡ length problem.costs
+  pub arcs : All (IsSpan time_limit) spans.arcs
+  pub launch : All (IsSpan launch_limit) spans.launch
+  pub capture : All (IsSpan time_limit) spans.capture
+  pub setup : All (IsWithin time_limit) spans.setup
+  pub hold : All (IsWithin time_limit) spans.hold
+  pub kinds : All (IsSpan time_limit) spans.kinds
+  pub kinds_least : All (λ kind. pos 0 ≤ℤ kind.least) spans.kinds
+
+pub record IsValid (problem : Problem) : Type 0 where
+  pub pins : problem.graph.pins ≤ 2 ^ 20
+  pub arcs : length problem.graph.arcs ≤ 2 ^ 22
+  pub some_corner : 1 ≤ length problem.corners
+  pub corner_limit : length problem.corners ≤ 8
+  pub kinds : length problem.costs ≤ 8
+  pub costs_least : All (λ cost. 1 ≤ cost) problem.costs
+  pub costs_most : All (λ cost. cost ≤ 1000000) problem.costs
+  pub max_chain : problem.max_chain ≤ 16
+  pub period_least : pos 1 ≤ℤ problem.period
+  pub period_most : problem.period ≤ℤ pos time_limit
+  pub corners : All (IsValidCorner problem) problem.corners
