@@ -1,0 +1,13 @@
+pub mod CanonicalTokens
+pub mod CanonicalItems
+pub mod CanonicalLines
+pub mod CanonicalPorts
+pub mod CanonicalWhole
+pub mod CommandLemmas
+pub mod JobFormLemmas
+pub mod JobApart
+pub mod TextsLemmas
+pub mod FrontLemmas
+pub mod FrontSteps
+pub mod RepairTexts
+pub mod Answers

@@ -1,0 +1,26 @@
+use Rattle.std.proofs.Common.{◌≡◌, Err, ap}
+use Rattle.hold_cli.specs.declared.input.Stopped.TheVariants.{Refused}
+use Rattle.hold_files.proofs.ToldLemmas.{OnlyReads-trans}
+use Rattle.hold_cli.proofs.FrontSteps.{netlist_refused, netlist_found}
+use Rattle.hold_cli.proofs.front.read_front.Goals as goal
+
+pub returns-in-Ok-clause-found : goal.returns-in-Ok-clause-found
+returns-in-Ok-clause-found g c =
+    netlist_found (g.F.Files.told c.args.files.now) (g.F.Files.told c.read_job.new.files) c.args.name.now c.in_ok-job.job c.in-Ok.text.items
+    c.read_job.ensures.stays c.in_ok-job.ensures.at c.in-Ok.ensures.found
+
+pub returns-in-Ok-clause-stays : goal.returns-in-Ok-clause-stays
+returns-in-Ok-clause-stays g c =
+    OnlyReads-trans (g.F.Files.told c.args.files.now) (g.F.Files.told c.read_job.new.files) (g.F.Files.told c.read_netlist.new.files)
+    c.read_job.ensures.stays c.read_netlist.ensures.stays
+
+pub returns-in-Err-clause-stays : goal.returns-in-Err-clause-stays
+returns-in-Err-clause-stays g c =
+    OnlyReads-trans (g.F.Files.told c.args.files.now) (g.F.Files.told c.read_job.new.files) (g.F.Files.told c.read_netlist.new.files)
+    c.read_job.ensures.stays c.read_netlist.ensures.stays
+
+pub returns-in-Err-clause-refused : goal.returns-in-Err-clause-refused
+returns-in-Err-clause-refused g c = λ fault is.
+    let same : c.in-Err.stopped ≡ Refused fault = cc in
+    netlist_refused (g.F.Files.told c.args.files.now) (g.F.Files.told c.read_job.new.files) c.args.name.now c.in_ok-job.job fault
+    c.read_job.ensures.stays c.in_ok-job.ensures.at (c.in-Err.ensures.refused fault (ap Err same))

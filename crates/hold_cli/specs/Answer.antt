@@ -1,0 +1,97 @@
+-- usage_line, refusal_line, repaired_line: what is said of an answer.
+-- whole_certificate: the certificate of a netlist that meets every check as it is: no buffer costs nothing, and one leaf proves that nothing costs less.
+-- only_line: an answer that writes no file.
+-- repair_texts job netlist: what a repair without buffers writes: the certificate, the netlist's canonical text, and its line.
+-- Comes told name outcome ready: the order of work on the job in the file `name` comes to this outcome over these contents, and has these texts
+--   ready. It never comes to a file that fails or to want of memory.
+-- IsAnswer old new name outcome: the outcome is right for the repair of the job in the file `name`, begun over the old moment and ended at the new one.
+--   IsRepaired: every text was written, and where the files were told, they are those of the job and its netlist. IsRefused: the line was said, and where the files were
+--   told, that fault is the first refusal. IsUnread: a read of that file failed, which the work comes to, and nothing changed. IsUnwritten: another
+--   outcome had its texts ready, and one of them failed.
+use Rattle.std.specs.Prelude.{◌≡◌, ℕ, List, [], ◌∷◌, ◌++◌, Some, codes}
+use Rattle.hold_files.specs.Told.{Told, Rose}
+use Rattle.hold_cli.specs.declared.job_form.Job.{Job}
+use Rattle.hold_cli.specs.declared.outcome.Fault.{Fault}
+use Rattle.hold_cli.specs.declared.outcome.Fault.TheVariants.{TooLong, NotBuilt}
+use Rattle.hold_cli.specs.declared.outcome.Outcome.{Outcome}
+use Rattle.hold_cli.specs.declared.outcome.Outcome.TheVariants.{Repaired, Input, ReadFault, WriteFault, Memory, Words}
+use Rattle.hold_cli.specs.Front.{ComesTo, IsTold, Refuses, IsFront}
+use Rattle.hold_cli.specs.Texts.{Ready, IsDone, Fails, FailsInLine, SaysNothing}
+use Rattle.hold_netlist.specs.Design.{Design}
+use Rattle.hold_netlist.specs.CanonicalText.{canonical_text}
+
+abbrev pub usage_line : List ℕ
+usage_line = codes "usage: hold repair JOB, check JOB, report JOB, apply JOB or trial N\n"
+
+abbrev pub refusal_line : Fault → List ℕ
+refusal_line (TooLong file) = codes "input toolong " ++ file ++ codes "\n"
+refusal_line (NotBuilt file) = codes "input notbuilt " ++ file ++ codes "\n"
+
+abbrev pub repaired_line : List ℕ
+repaired_line = codes "repaired cost 0\n"
+
+abbrev pub whole_certificate : List ℕ
+whole_certificate = codes "hold-certificate 1\nrepaired 0\nleaf 1\nend\n"
+
+abbrev pub only_line : List ℕ → Ready
+only_line line = record { files = []; line = line }
+
+abbrev pub repair_texts : Job → List ℕ → Ready
+repair_texts job text = record { files = (job.certificate, whole_certificate) ∷ (job.output, text) ∷ []; line = repaired_line }
+
+pub record IsRepaired (old new : Told) (name : List ℕ) (cost : ℕ) : Type 0 where
+  pub job : Job
+  pub text : List ℕ
+  pub free : cost ≡ 0
+  pub done : IsDone old new (repair_texts job text)
+  pub front : IsTold old name → (netlist : Design) × IsFront old name job netlist × (text ≡ canonical_text netlist)
+
+pub record IsRefused (old new : Told) (name : List ℕ) (fault : Fault) : Type 0 where
+  pub refuses : IsTold old name → Refuses old name fault
+  pub done : IsDone old new (only_line (refusal_line fault))
+
+pub record IsUnread (old new : Told) (name file : List ℕ) : Type 0 where
+  pub cause : Rose (old.read_faults file) (new.read_faults file)
+  pub comes : (text : List ℕ) → old.content name ≡ Some text → ComesTo old name file
+  pub nothing : SaysNothing old new
+
+abbrev pub Comes : Told → List ℕ → Outcome → Ready → Type 0
+Comes told name (Input fault) ready = Refuses told name fault × (ready ≡ only_line (refusal_line fault))
+Comes told name (Repaired cost) ready =
+    (job : Job) × (netlist : Design) × IsFront told name job netlist × (cost ≡ 0) × (ready ≡ repair_texts job (canonical_text netlist))
+Comes told name (ReadFault file) ready = ⊥
+Comes told name WriteFault ready = ⊥
+Comes told name Memory ready = ⊥
+Comes told name Words ready = ⊥
+
+pub record IsUnwritten (old new : Told) (name : List ℕ) : Type 0 where
+  pub ready : Ready
+  pub fails : Fails old new ready
+  pub comes : IsTold old name → (outcome : Outcome) × Comes old name outcome ready
+
+-- what is right of each outcome
+abbrev pub IsAnswer : Told → Told → List ℕ → Outcome → Type 0
+IsAnswer old new name (Repaired cost) = IsRepaired old new name cost
+IsAnswer old new name (Input fault) = IsRefused old new name fault
+IsAnswer old new name (ReadFault file) = IsUnread old new name file
+IsAnswer old new name WriteFault = IsUnwritten old new name
+IsAnswer old new name Memory = SaysNothing old new
+IsAnswer old new name Words = ⊥
+
+-- what is right of a refusal that is ready: the fault is answered, its line failed, or there was no memory for the line
+abbrev pub IsRefusal : Told → Told → Fault → Outcome → Type 0
+IsRefusal old new fault (Input answered) = (answered ≡ fault) × IsDone old new (only_line (refusal_line fault))
+IsRefusal old new fault WriteFault = FailsInLine old new (only_line (refusal_line fault))
+IsRefusal old new fault Memory = old ≡ new
+IsRefusal old new fault (Repaired cost) = ⊥
+IsRefusal old new fault (ReadFault file) = ⊥
+IsRefusal old new fault Words = ⊥
+
+-- what is right of a repair that is ready: it is answered, or one of its texts failed
+abbrev pub IsDelivery : Told → Told → Job → List ℕ → Outcome → Type 0
+IsDelivery old new job text (Repaired cost) = (cost ≡ 0) × IsDone old new (repair_texts job text)
+IsDelivery old new job text WriteFault = Fails old new (repair_texts job text)
+IsDelivery old new job text (Input fault) = ⊥
+IsDelivery old new job text (ReadFault file) = ⊥
+IsDelivery old new job text Memory = ⊥
+IsDelivery old new job text Words = ⊥

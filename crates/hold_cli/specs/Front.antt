@@ -1,0 +1,81 @@
+-- The order of work over a job, up to the point from which nothing is refused any more.
+--
+-- file_limit: how many bytes a job or a netlist may have, 2^26.
+-- IsServed netlist: a valid netlist of the form that is served today: plain, and without instances.
+-- HasText told file text: the content of the file is told, it is this text, and it is within the limit.
+-- IsTooLong told file: the content is told and passes the limit.
+-- IsJobAt told name job: the file `name` holds this job.
+-- ComesTo told name file: the work on the job in the file `name` reads `file`: that file itself, or the netlist of the job in it.
+-- IsTold told name: the content of each file that the work comes to is told.
+-- HasNoJob, HasNoNetlist: the file is told and within the limit, and it is no job of the form, or no netlist of it.
+-- RefusesJob, RefusesNetlist: why that one file is refused. Refuses told name fault: the first refusal in the order of work: first the job's, then
+--   that of the netlist that the job names.
+-- IsFront told name job netlist: nothing is refused, and these are the job and the netlist.
+use Rattle.std.specs.Prelude.{◌≡◌, ◌⊎◌, ◌<◌, ◌≤◌, ℕ, List, length, Some, IsSome}
+use Rattle.hold_files.specs.Told.{Told}
+use Rattle.hold_cli.specs.declared.job_form.Job.{Job}
+use Rattle.hold_cli.specs.declared.outcome.Fault.{Fault}
+use Rattle.hold_cli.specs.declared.outcome.Fault.TheVariants.{TooLong, NotBuilt}
+use Rattle.hold_cli.specs.JobForm.{IsJobText}
+use Rattle.hold_netlist.specs.Design.{Design}
+use Rattle.hold_netlist.specs.Valid.{IsValid}
+use Rattle.hold_netlist.specs.CanonicalText.{canonical_text}
+use Rattle.hold_cli.specs.CanonicalPlain.{IsPlain, HasNoInstance}
+
+abbrev pub file_limit : ℕ
+file_limit = 67108864
+
+pub record IsServed (netlist : Design) : Type 0 where
+  pub valid : IsValid netlist
+  pub plain : IsPlain netlist
+  pub bare : HasNoInstance netlist
+
+pub record HasText (told : Told) (file text : List ℕ) : Type 0 where
+  pub content : told.content file ≡ Some text
+  pub within : length text ≤ file_limit
+
+pub record IsTooLong (told : Told) (file : List ℕ) : Type 0 where
+  pub text : List ℕ
+  pub content : told.content file ≡ Some text
+  pub beyond : file_limit < length text
+
+pub record IsJobAt (told : Told) (name : List ℕ) (job : Job) : Type 0 where
+  pub text : List ℕ
+  pub has : HasText told name text
+  pub says : IsJobText text name job
+
+pub record HasNoJob (told : Told) (name : List ℕ) : Type 0 where
+  pub text : List ℕ
+  pub has : HasText told name text
+  pub none : (job : Job) → IsJobText text name job → ⊥
+
+pub record HasNoNetlist (told : Told) (file : List ℕ) : Type 0 where
+  pub text : List ℕ
+  pub has : HasText told file text
+  pub none : (netlist : Design) → IsServed netlist → text ≡ canonical_text netlist → ⊥
+
+-- the first file, or the one that the job in it names
+abbrev pub ComesTo : Told → List ℕ → List ℕ → Type 0
+ComesTo told name file = (file ≡ name) ⊎ ((job : Job) × IsJobAt told name job × (file ≡ job.netlist))
+
+pub record IsTold (told : Told) (name : List ℕ) : Type 0 where
+  pub job : IsSome (told.content name)
+  pub netlist : (job : Job) → IsJobAt told name job → IsSome (told.content job.netlist)
+
+-- the job file, which is named, is too long or no job
+abbrev pub RefusesJob : Told → List ℕ → Fault → Type 0
+RefusesJob told name (TooLong file) = IsTooLong told name × (file ≡ name)
+RefusesJob told name (NotBuilt file) = HasNoJob told name × (file ≡ name)
+
+-- the netlist, which is named, is too long or of no form that is served
+abbrev pub RefusesNetlist : Told → List ℕ → Fault → Type 0
+RefusesNetlist told name (TooLong file) = IsTooLong told name × (file ≡ name)
+RefusesNetlist told name (NotBuilt file) = HasNoNetlist told name × (file ≡ name)
+
+abbrev pub Refuses : Told → List ℕ → Fault → Type 0
+Refuses told name fault = RefusesJob told name fault ⊎ ((job : Job) × IsJobAt told name job × RefusesNetlist told job.netlist fault)
+
+pub record IsFront (told : Told) (name : List ℕ) (job : Job) (netlist : Design) : Type 0 where
+  pub at : IsJobAt told name job
+  pub text : HasText told job.netlist (canonical_text netlist)
+  pub served : IsServed netlist

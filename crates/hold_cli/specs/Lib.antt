@@ -1,0 +1,10 @@
+pub mod CanonicalLists
+pub mod CanonicalModule
+pub mod CanonicalPlain
+pub mod Outcome
+pub mod Command
+pub mod JobForm
+pub mod JobFormKeys
+pub mod Front
+pub mod Texts
+pub mod Answer

@@ -1,0 +1,63 @@
+//! `hold`: repairs the hold violations of a netlist by delay buffers, and proves that no cheaper way does.
+#![tactic(auto)]
+
+mod answer;
+mod canonical;
+mod command;
+mod front;
+mod input;
+mod job_form;
+mod outcome;
+mod top;
+
+use hold_base::{Memory, Name};
+use hold_files::HostFiles;
+use outcome::{Outcome, status};
+use std::alloc::{Alloc, Global};
+use std::env;
+use std::io::{self, Eprint};
+use std::process::ExitCode;
+use std::rt::Env;
+use top::run;
+
+fn main(rt: HostRuntime) -> ExitCode {
+    let alloc = rt.alloc();
+    let outcome = match program_words(&rt, alloc) {
+        Ok(words) => {
+            let mut files = HostFiles::new(rt);
+            run(alloc, words.as_slice(), &mut files)
+        }
+        Err(Memory) => Outcome::Memory,
+    };
+    complain(&rt, &outcome);
+    ExitCode::from(status(&outcome))
+}
+
+/// The arguments after the program's name, or no words where the system can't hand them over as text.
+fn program_words(rt: &(impl Env + Alloc), alloc: Global) -> Result<Vec<Name>, Memory> {
+    let mut words = Vec::new(alloc);
+    match env::args(rt) {
+        Ok(mut arguments) => {
+            let _program = arguments.next();
+            for argument in arguments {
+                words.push(Name::from_bytes(alloc, argument.as_bytes())?)?;
+            }
+        }
+        Err(error) if error.kind() == io::ErrorKind::OutOfMemory => return Err(Memory),
+        Err(_) => {}
+    }
+    Ok(words)
+}
+
+/// Tells standard error of an outcome that says no line.
+fn complain(rt: &impl Eprint, outcome: &Outcome) {
+    let _ = match outcome {
+        Outcome::ReadFault(_) => rt.eprintln("read fault"),
+        Outcome::WriteFault => rt.eprintln("write fault"),
+        Outcome::Memory => rt.eprintln("want of memory"),
+        _ => Ok(()),
+    };
+}
+
+#[cfg(test)]
+mod tests;

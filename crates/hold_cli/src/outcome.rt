@@ -1,0 +1,44 @@
+ghost use Rattle.std.specs.Prelude.{◌≡◌};
+ghost use Rattle.hold_cli.specs.Outcome.{status_of};
+
+use hold_base::Name;
+
+/// Why an input is refused.
+#[derive(Debug, Drop, PartialEq, Eq)]
+pub enum Fault {
+    /// The file of this name has more than 2^26 bytes.
+    TooLong(Name),
+    /// The file of this name is outside the form that is served today.
+    NotBuilt(Name),
+}
+
+/// What a run answers.
+#[derive(Debug, Drop, PartialEq, Eq)]
+pub enum Outcome {
+    /// The netlist meets every check with buffers of this cost, and was written.
+    Repaired { cost: u64 },
+    /// An input is refused.
+    Input(Fault),
+    /// The file of this name can't be read.
+    ReadFault(Name),
+    /// A file or standard output can't be written.
+    WriteFault,
+    /// Want of memory.
+    Memory,
+    /// The words are no command.
+    Words,
+}
+
+/// The exit status that tells an outcome. Takes no memory.
+pub fn status(outcome: &Outcome) -> u8
+    ensures { result ≡ status_of outcome.now }
+{
+    match outcome {
+        Outcome::Repaired { cost: _ } => 0,
+        Outcome::Input(_) => 3,
+        Outcome::ReadFault(_) => 4,
+        Outcome::WriteFault => 5,
+        Outcome::Memory => 6,
+        Outcome::Words => 7,
+    }
+}

@@ -1,0 +1,263 @@
+use crate::outcome::{Fault, Outcome, status};
+use crate::top::run;
+use hold_base::{List, Memory, Name};
+use hold_files::{Fails, MemoryFiles, read_whole};
+use std::alloc::Global;
+use std::process::Abort;
+use std::test::Fail;
+
+const JOB: &[u8] =
+    b"netlist = \"e.v\"\noutput = \"e_out.v\"\ncertificate = \"e.cert\"\nperiod = 1000\n[[corner]]\nname = \"typ\"\n";
+
+const NETLIST: &[u8] = b"module m();\nendmodule\n";
+
+const CERTIFICATE: &[u8] = b"hold-certificate 1\nrepaired 0\nleaf 1\nend\n";
+
+/// What a run answered and left.
+#[derive(Drop)]
+struct Ran {
+    outcome: Outcome,
+    certificate: Vec<u8>,
+    output: Vec<u8>,
+    said: Vec<u8>,
+}
+
+/// The numbers of the calls that fail.
+fn fails_at(
+    alloc: Global,
+    reads: &[u64],
+    starts: &[u64],
+    puts: &[u64],
+    says: &[u64],
+) -> Result<Fails, Memory> {
+    Ok(Fails {
+        reads: List::from_vec(Vec::from_slice(alloc, reads)?),
+        starts: List::from_vec(Vec::from_slice(alloc, starts)?),
+        puts: List::from_vec(Vec::from_slice(alloc, puts)?),
+        says: List::from_vec(Vec::from_slice(alloc, says)?),
+    })
+}
+
+fn add_text(
+    alloc: Global,
+    texts: &mut Vec<(Name, Vec<u8>)>,
+    name: &[u8],
+    text: &[u8],
+) -> Result<(), Memory> {
+    texts.push((
+        Name::from_bytes(alloc, name)?,
+        Vec::from_slice(alloc, text)?,
+    ))?;
+    Ok(())
+}
+
+/// The job and its netlist, with outputs that hold `old`.
+fn files_with(
+    alloc: Global,
+    netlist: &[u8],
+    room: usize,
+    fails: Fails,
+) -> Result<MemoryFiles, Memory> {
+    let mut texts = Vec::new(alloc);
+    add_text(alloc, &mut texts, b"e.toml", JOB)?;
+    add_text(alloc, &mut texts, b"e.v", netlist)?;
+    add_text(alloc, &mut texts, b"e_out.v", b"old")?;
+    add_text(alloc, &mut texts, b"e.cert", b"old")?;
+    let mut outputs = Vec::new(alloc);
+    outputs.push(Name::from_bytes(alloc, b"e_out.v")?)?;
+    outputs.push(Name::from_bytes(alloc, b"e.cert")?)?;
+    MemoryFiles::new(alloc, texts, outputs, room, fails)
+}
+
+/// The words that ask for the repair of this job, or no words where it has no name.
+fn words_of(alloc: Global, job: &[u8]) -> Result<Vec<Name>, Memory> {
+    let mut words = Vec::new(alloc);
+    if !job.is_empty() {
+        words.push(Name::from_bytes(alloc, b"repair")?)?;
+        words.push(Name::from_bytes(alloc, job)?)?;
+    }
+    Ok(words)
+}
+
+fn content(alloc: Global, files: &mut MemoryFiles, name: &[u8]) -> Result<Vec<u8>, Fail> {
+    let name = Name::from_bytes(alloc, name)?;
+    Ok(read_whole(alloc, files, &name, u64::MAX)?)
+}
+
+fn run_over(
+    alloc: Global,
+    job: &[u8],
+    netlist: &[u8],
+    room: usize,
+    fails: Fails,
+) -> Result<Ran, Fail> {
+    let words = words_of(alloc, job)?;
+    let mut files = files_with(alloc, netlist, room, fails)?;
+    let outcome = run(alloc, words.as_slice(), &mut files);
+    let said = Vec::from_slice(alloc, files.said())?;
+    let certificate = content(alloc, &mut files, b"e.cert")?;
+    let output = content(alloc, &mut files, b"e_out.v")?;
+    Ok(Ran {
+        outcome,
+        certificate,
+        output,
+        said,
+    })
+}
+
+/// A run without a fault.
+fn ran_well(alloc: Global, job: &[u8], netlist: &[u8]) -> Result<Ran, Fail> {
+    let fails = fails_at(alloc, &[], &[], &[], &[])?;
+    run_over(alloc, job, netlist, 1000, fails)
+}
+
+#[test]
+fn a_netlist_that_needs_nothing_is_written(rt: HostRuntime) -> Result<(), Fail> {
+    let ran = ran_well(rt.alloc(), b"e.toml", NETLIST)?;
+    assert_eq!(rt; ran.outcome, Outcome::Repaired { cost: 0 });
+    assert_eq!(rt; status(&ran.outcome), 0);
+    assert_eq!(rt; ran.output.as_slice(), NETLIST);
+    assert_eq!(rt; ran.certificate.as_slice(), CERTIFICATE);
+    assert_eq!(rt; ran.said.as_slice(), b"repaired cost 0\n".as_slice());
+    Ok(())
+}
+
+#[test]
+fn no_words_are_answered_by_the_usage(rt: HostRuntime) -> Result<(), Fail> {
+    let ran = ran_well(rt.alloc(), b"", NETLIST)?;
+    assert_eq!(rt; ran.outcome, Outcome::Words);
+    assert_eq!(rt; status(&ran.outcome), 7);
+    assert_eq!(rt;
+        ran.said.as_slice(),
+        b"usage: hold repair JOB, check JOB, report JOB, apply JOB or trial N\n".as_slice()
+    );
+    Ok(())
+}
+
+#[test]
+fn a_missing_job_is_a_read_fault(rt: HostRuntime) -> Result<(), Fail> {
+    let ran = ran_well(rt.alloc(), b"nojob", NETLIST)?;
+    assert_eq!(rt; status(&ran.outcome), 4);
+    assert_eq!(rt;
+        ran.outcome,
+        Outcome::ReadFault(Name::from_bytes(rt.alloc(), b"nojob")?)
+    );
+    assert_eq!(rt; ran.said.as_slice(), b"".as_slice());
+    Ok(())
+}
+
+#[test]
+fn another_netlist_is_not_built(rt: HostRuntime) -> Result<(), Fail> {
+    let ran = ran_well(rt.alloc(), b"e.toml", b"module m();\nendmodule")?;
+    assert_eq!(rt; status(&ran.outcome), 3);
+    assert_eq!(rt;
+        ran.outcome,
+        Outcome::Input(Fault::NotBuilt(Name::from_bytes(rt.alloc(), b"e.v")?))
+    );
+    assert_eq!(rt; ran.said.as_slice(), b"input notbuilt e.v\n".as_slice());
+    assert_eq!(rt; ran.output.as_slice(), b"old".as_slice());
+    Ok(())
+}
+
+/// A run of which something can't be written: what the outputs hold after it.
+fn runs_into(
+    rt: &impl Abort,
+    alloc: Global,
+    room: usize,
+    fails: Fails,
+    certificate: &[u8],
+    output: &[u8],
+) -> Result<(), Fail> {
+    let ran = run_over(alloc, b"e.toml", NETLIST, room, fails)?;
+    assert_eq!(rt; status(&ran.outcome), 5);
+    assert_eq!(rt; ran.certificate.as_slice(), certificate);
+    assert_eq!(rt; ran.output.as_slice(), output);
+    assert_eq!(rt; ran.said.as_slice(), b"".as_slice());
+    Ok(())
+}
+
+#[test]
+fn a_failed_certificate_leaves_the_output(rt: HostRuntime) -> Result<(), Fail> {
+    let alloc = rt.alloc();
+    runs_into(
+        &rt,
+        alloc,
+        1000,
+        fails_at(alloc, &[], &[0], &[], &[])?,
+        b"old",
+        b"old",
+    )?;
+    runs_into(
+        &rt,
+        alloc,
+        1000,
+        fails_at(alloc, &[], &[], &[0], &[])?,
+        b"",
+        b"old",
+    )?;
+    runs_into(
+        &rt,
+        alloc,
+        10,
+        fails_at(alloc, &[], &[], &[], &[])?,
+        b"hold-certi",
+        b"old",
+    )
+}
+
+#[test]
+fn a_failed_output_or_line_leaves_the_certificate(rt: HostRuntime) -> Result<(), Fail> {
+    let alloc = rt.alloc();
+    runs_into(
+        &rt,
+        alloc,
+        1000,
+        fails_at(alloc, &[], &[1], &[], &[])?,
+        CERTIFICATE,
+        b"old",
+    )?;
+    runs_into(
+        &rt,
+        alloc,
+        1000,
+        fails_at(alloc, &[], &[], &[1], &[])?,
+        CERTIFICATE,
+        b"",
+    )?;
+    runs_into(
+        &rt,
+        alloc,
+        1000,
+        fails_at(alloc, &[], &[], &[], &[0])?,
+        CERTIFICATE,
+        NETLIST,
+    )
+}
+
+#[test]
+fn a_failed_read_names_its_file(rt: HostRuntime) -> Result<(), Fail> {
+    let alloc = rt.alloc();
+    let first = run_over(
+        alloc,
+        b"e.toml",
+        NETLIST,
+        1000,
+        fails_at(alloc, &[0], &[], &[], &[])?,
+    )?;
+    assert_eq!(rt;
+        first.outcome,
+        Outcome::ReadFault(Name::from_bytes(alloc, b"e.toml")?)
+    );
+    let second = run_over(
+        alloc,
+        b"e.toml",
+        NETLIST,
+        1000,
+        fails_at(alloc, &[2], &[], &[], &[])?,
+    )?;
+    assert_eq!(rt;
+        second.outcome,
+        Outcome::ReadFault(Name::from_bytes(alloc, b"e.v")?)
+    );
+    Ok(())
+}

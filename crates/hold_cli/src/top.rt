@@ -1,0 +1,112 @@
+ghost use Rattle.std.specs.Prelude.{◌≡◌, ◌≢◌, ◌⊎◌, ℕ, List, Some};
+ghost use Rattle.hold_files.specs.Told.{Rose, GoesOn};
+ghost use Rattle.hold_cli.specs.declared.outcome.Outcome.{Outcome as Answer};
+ghost use Rattle.hold_cli.specs.declared.outcome.Fault.{Fault as Refusal};
+ghost use Rattle.hold_cli.specs.Outcome.{GivesUp};
+ghost use Rattle.hold_cli.specs.Command.{IsRepair};
+ghost use Rattle.hold_cli.specs.Front.{ComesTo, IsTold, Refuses, IsFront};
+ghost use Rattle.hold_netlist.specs.Design.{Design};
+ghost use Rattle.hold_netlist.specs.CanonicalText.{canonical_text};
+ghost use Rattle.hold_cli.specs.declared.job_form.Job.{Job as JobData};
+ghost use Rattle.hold_cli.specs.Answer.{usage_line, refusal_line, only_line, repair_texts, Comes, IsAnswer, IsRefusal, IsDelivery};
+ghost use Rattle.hold_cli.specs.Texts.{Ready, IsDone, Fails, FailsInLine, SaysNothing};
+
+use crate::answer::{USAGE, line_of, say_line, write_repair};
+use crate::command::repair_job;
+use crate::front::{Front, read_front};
+use crate::input::Stopped;
+use crate::outcome::{Fault, Outcome};
+use hold_base::{Memory, Name};
+use hold_files::{Failed, Files};
+use std::alloc::Global;
+
+/// Does the work that the words ask for, over these files, and says one line.
+pub fn run<F: Files>(alloc: Global, words: &[Name], files: &mut F) -> Outcome
+    // No count falls, and what is told stays told.
+    ensures goes_on { GoesOn (F.told files.old) (F.told files.new) }
+
+    // Words that are no command.
+    ensures words { result ≡ Outcome.Words → (job : List ℕ) → IsRepair words.now job → ⊥ }
+    ensures only_words { ((job : List ℕ) → IsRepair words.now job → ⊥) → (result ≡ Outcome.Words) ⊎ (result ≡ Outcome.WriteFault) }
+    ensures usage { result ≡ Outcome.Words → IsDone (F.told files.old) (F.told files.new) (only_line usage_line) }
+
+    // An input that is refused.
+    ensures refused { (name : List ℕ) (fault : Refusal) → IsRepair words.now name → IsTold (F.told files.old) name
+        → result ≡ Outcome.Input fault → Refuses (F.told files.old) name fault }
+    ensures only_refused { (name : List ℕ) (fault : Refusal) → IsRepair words.now name → Refuses (F.told files.old) name fault
+        → (result ≡ Outcome.Input fault) ⊎ GivesUp result }
+    ensures refusal { (fault : Refusal) → result ≡ Outcome.Input fault
+        → IsDone (F.told files.old) (F.told files.new) (only_line (refusal_line fault)) }
+
+    // A repair: what is written, where nothing is refused.
+    ensures repaired { (name : List ℕ) (cost : ℕ) → IsRepair words.now name → IsTold (F.told files.old) name
+        → result ≡ Outcome.Repaired cost → (job : JobData) × (netlist : Design) × IsFront (F.told files.old) name job netlist
+        × (cost ≡ 0) × IsDone (F.told files.old) (F.told files.new) (repair_texts job (canonical_text netlist)) }
+    ensures only_repaired { (name : List ℕ) (job : JobData) (netlist : Design) → IsRepair words.now name
+        → IsFront (F.told files.old) name job netlist → (result ≡ Outcome.Repaired 0) ⊎ GivesUp result }
+
+    // A file that can't be read.
+    ensures read_fault { (file : List ℕ) → result ≡ Outcome.ReadFault file
+        → Rose ((F.told files.old).read_faults file) ((F.told files.new).read_faults file) }
+    ensures read_comes { (name text file : List ℕ) → IsRepair words.now name → (F.told files.old).content name ≡ Some text
+        → result ≡ Outcome.ReadFault file → ComesTo (F.told files.old) name file }
+    ensures read_commanded { (file : List ℕ) → result ≡ Outcome.ReadFault file → (name : List ℕ) × IsRepair words.now name }
+    ensures unread { (file : List ℕ) → result ≡ Outcome.ReadFault file → SaysNothing (F.told files.old) (F.told files.new) }
+
+    // A file or a line that can't be written: another answer was ready.
+    ensures write_fault { (name : List ℕ) → IsRepair words.now name → IsTold (F.told files.old) name
+        → result ≡ Outcome.WriteFault → (answer : Answer) × (ready : Ready) × Comes (F.told files.old) name answer ready
+        × Fails (F.told files.old) (F.told files.new) ready }
+    ensures write_usage { ((job : List ℕ) → IsRepair words.now job → ⊥) → result ≡ Outcome.WriteFault
+        → FailsInLine (F.told files.old) (F.told files.new) (only_line usage_line) }
+    ensures write_cause { result ≡ Outcome.WriteFault → (ready : Ready) × Fails (F.told files.old) (F.told files.new) ready }
+
+    // Want of memory comes only to a command, and before anything is written.
+    ensures memory { result ≡ Outcome.Memory → (name : List ℕ) × IsRepair words.now name }
+    ensures unchanged { result ≡ Outcome.Memory → SaysNothing (F.told files.old) (F.told files.new) }
+{
+    match repair_job(words) {
+        Some(name) => repair(alloc, name, files),
+        None => match say_line(files, USAGE) {
+            Ok(()) => Outcome::Words,
+            Err(Failed) => Outcome::WriteFault,
+        },
+    }
+}
+
+/// Repairs the netlist of the job in this file.
+fn repair<F: Files>(alloc: Global, name: &Name, files: &mut F) -> Outcome
+    ensures answer { IsAnswer (F.told files.old) (F.told files.new) name.now result }
+    ensures goes_on { GoesOn (F.told files.old) (F.told files.new) }
+{
+    match read_front(alloc, files, name) {
+        Ok(front) => deliver(files, &front),
+        Err(Stopped::Read(file)) => Outcome::ReadFault(file),
+        Err(Stopped::Refused(fault)) => refuse(alloc, files, fault),
+        Err(Stopped::Memory) => Outcome::Memory,
+    }
+}
+
+fn deliver<F: Files>(files: &mut F, front: &Front) -> Outcome
+    requires { front.now.job.certificate ≢ front.now.job.output }
+    ensures answer { IsDelivery (F.told files.old) (F.told files.new) front.now.job front.now.text.items result }
+    ensures goes_on { GoesOn (F.told files.old) (F.told files.new) }
+{
+    match write_repair(files, &front.job, front.text.as_slice()) {
+        Ok(()) => Outcome::Repaired { cost: 0 },
+        Err(Failed) => Outcome::WriteFault,
+    }
+}
+
+fn refuse<F: Files>(alloc: Global, files: &mut F, fault: Fault) -> Outcome
+    ensures answer { IsRefusal (F.told files.old) (F.told files.new) fault result }
+    ensures goes_on { GoesOn (F.told files.old) (F.told files.new) }
+{
+    match line_of(alloc, &fault) {
+        Ok(line) => match say_line(files, line.as_slice()) {
+            Ok(()) => Outcome::Input(fault),
+            Err(Failed) => Outcome::WriteFault,
+        },
+        Err(Memory) => Outcome::Memory,
+    }
+}
