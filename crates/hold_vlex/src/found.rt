@@ -112,7 +112,8 @@ fn directive<'a>(text: &'a [u8], rest: &'a [u8]) -> Found<'a>
 
 /// The escaped name whose bytes follow the backslash.
 fn escaped(rest: &[u8]) -> Found<'_>
-    ensures { shown result ≡ escaped (take_while is_printed rest.now) (slice_get rest.now (prefix_len is_printed rest.now)) }
+    ensures { shown result
+        ≡ escaped (take_while is_printed rest.now) (slice_get rest.now (prefix_len is_printed rest.now)) }
 {
     let n = printed_len(rest);
     let (name, _) = rest.split_at(n);
