@@ -1,9 +1,8 @@
 -- The lines of a plain design, as the readers find them.
-use Rattle.std.proofs.Common.{◌≡◌, ℕ, List, [], ◌∷◌, ◌++◌, map, cond, true, Option, None, refl, sym, ap, subst, ◌∙◌, append_assoc, get_or, arith}
+use Rattle.std.proofs.Common.{◌≡◌, ℕ, List, [], ◌∷◌, ◌++◌, Option, refl, sym, ap, subst, ◌∙◌, append_assoc}
 use Rattle.std.proofs.lemmas.List.{append_cancel_left}
 use Rattle.std.specs.Prelude.{codes}
 use Rattle.hold_netlist.specs.declared.wire.Wire.{Wire}
-use Rattle.hold_netlist.specs.Identifier.{is_simple, is_letter}
 use Rattle.hold_netlist.specs.CanonicalText.{spelled, wire_line}
 use Rattle.hold_cli.specs.CanonicalPlain.{IsSimple, IsPlainWire, scalar}
 use Rattle.hold_cli.specs.CanonicalLists.{EndsWord, IsItems, IsJoined}

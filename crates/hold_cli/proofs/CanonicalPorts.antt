@@ -1,14 +1,14 @@
 -- Reading the ports' lines one after the other.
-use Rattle.std.proofs.Common.{◌≡◌, ℕ, zero, suc, ◌+◌, ◌<◌, ◌≤◌, List, [], ◌∷◌, ◌++◌, map, length, take, drop, get_or, refl, sym, ap, subst, ◌∙◌, append_assoc, arith}
+use Rattle.std.proofs.Common.{◌≡◌, ℕ, zero, suc, ◌+◌, ◌<◌, ◌≤◌, List, [], ◌∷◌, ◌++◌, length, take, drop, get_or, refl, sym, ap, subst, ◌∙◌, append_assoc}
 use Rattle.std.specs.Prelude.{codes, flat_map}
 use Rattle.std.specs.List.{AllByRecursion}
 use Rattle.std.proofs.Math.Seq.{take-add}
-use Rattle.std.proofs.lemmas.List.{append-nil, drop_more, take_more, take_all, drop_all, map_push, drop-drop}
+use Rattle.std.proofs.lemmas.List.{append-nil, drop_more, take_all, drop_all, map_push, drop-drop}
 use Rattle.hold_netlist.specs.declared.wire.Port.{Port}
 use Rattle.hold_netlist.specs.declared.wire.Direction.{Direction}
 use Rattle.hold_netlist.specs.Names.{port_names}
-use Rattle.hold_netlist.specs.CanonicalText.{direction_text, port_line}
-use Rattle.hold_cli.specs.CanonicalPlain.{IsSimple, scalar}
+use Rattle.hold_netlist.specs.CanonicalText.{direction_text}
+use Rattle.hold_cli.specs.CanonicalPlain.{IsSimple}
 use Rattle.hold_cli.specs.CanonicalModule.{port_text, ArePortLines}
 use Rattle.hold_cli.proofs.CanonicalItems.{flat_map_last}
 

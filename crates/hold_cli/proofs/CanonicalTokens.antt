@@ -1,12 +1,11 @@
 -- The pieces of a line: a fixed text, and a word.
-use Rattle.std.proofs.Common.{◌≡◌, ℕ, ◌+◌, ◌≤◌, ◌<◌, Bool, true, false, cond, ◌&&◌, one-add, List, [], ◌∷◌, ◌++◌, length, take, drop, refl, sym, ap, subst, ◌∙◌, arith, length-append, add-one, inl, inr}
+use Rattle.std.proofs.Common.{◌≡◌, ℕ, ◌≤◌, Bool, true, false, ◌&&◌, one-add, List, [], ◌∷◌, ◌++◌, length, take, drop, refl, sym, ap, subst, ◌∙◌, arith, inl, inr}
 use Rattle.std.specs.List.{prefix_len, list_all}
 use Rattle.std.specs.Str.{bytes_eq}
-use Rattle.std.specs.Prelude.{IsTrue, not}
+use Rattle.std.specs.Prelude.{not}
 use Rattle.std.proofs.lemmas.Slice.Eq.{bytes_eq-Decides}
 use Rattle.std.proofs.lemmas.List.Sums.{prefix_len-le-length}
 use Rattle.std.proofs.lemmas.List.{take_at, drop_at, take-append-drop}
-use Rattle.std.proofs.lemmas.List.Prefix.{front_fits}
 use Rattle.std.proofs.lemmas.Bool.{cases_Bool, false≢true, not-false, not-true}
 use Rattle.hold_netlist.specs.Identifier.{is_word_byte, is_letter, is_word, is_simple}
 use Rattle.hold_netlist.specs.Names.{is_among}

@@ -1,8 +1,8 @@
 -- The parts of a plain design's text, from its front to its end.
-use Rattle.std.proofs.Common.{◌≡◌, ◌≢◌, ℕ, zero, suc, ◌+◌, ◌<◌, ◌≤◌, Bool, true, false, List, [], ◌∷◌, ◌++◌, map, length, take, drop, get_or, Option, None, refl, sym, ap, subst, ◌∙◌, append_assoc, arith}
-use Rattle.std.specs.Prelude.{codes, flat_map, ◌||◌, ◌&&◌, nat_le, nat_eq}
+use Rattle.std.proofs.Common.{◌≡◌, ℕ, zero, suc, ◌≤◌, Bool, true, false, List, [], ◌∷◌, ◌++◌, map, length, take, drop, get_or, Option, None, refl, sym, ap, subst, ◌∙◌, append_assoc, arith}
+use Rattle.std.specs.Prelude.{codes, flat_map, ◌||◌}
 use Rattle.std.specs.List.{AllByRecursion, list_all}
-use Rattle.std.proofs.lemmas.List.{append-nil, append_cancel_left, take_at, drop_at, map-append, length-map, take-append-drop, take-map}
+use Rattle.std.proofs.lemmas.List.{append-nil, append_cancel_left, take_at, drop_at, length-map}
 use Rattle.std.proofs.lemmas.Bool.{false≢true}
 use Rattle.std.proofs.lemmas.Bool.Decides.{nat_tests}
 use Rattle.hold_netlist.specs.declared.wire.Port.{Port}
@@ -12,15 +12,15 @@ use Rattle.hold_netlist.specs.declared.inst.Assign.{Assign}
 use Rattle.hold_netlist.specs.Design.{Design, design}
 use Rattle.hold_netlist.specs.Bits.{bits_of}
 use Rattle.hold_netlist.specs.Names.{IsName, port_names, wire_names}
-use Rattle.hold_netlist.specs.Identifier.{is_letter, is_word_byte, is_simple}
+use Rattle.hold_netlist.specs.Identifier.{is_word_byte}
 use Rattle.hold_netlist.specs.Keywords.{keywords}
-use Rattle.hold_netlist.specs.WellFormed.{IsWrittenWire, IsWellFormed, IsWrittenInst, IsWrittenAssign, HasBoundsInLimit}
-use Rattle.hold_netlist.specs.CanonicalText.{spelled, joined, range_text, port_line, port_lines, wire_line, assign_line, inst_line, module_line, canonical_text, connection_text}
+use Rattle.hold_netlist.specs.WellFormed.{IsWrittenWire, IsWellFormed, IsWrittenInst, HasBoundsInLimit}
+use Rattle.hold_netlist.specs.CanonicalText.{spelled, joined, port_line, port_lines, wire_line, assign_line, inst_line, module_line, canonical_text, connection_text}
 use Rattle.hold_cli.specs.CanonicalPlain.{IsSimple, IsPlainWire, IsPlainInst, IsPlain, IsPlainText, scalar}
-use Rattle.hold_cli.specs.CanonicalLists.{EndsWord, IsItems, IsJoined}
+use Rattle.hold_cli.specs.CanonicalLists.{EndsWord, IsItems}
 use Rattle.hold_cli.specs.CanonicalModule.{port_text, IsModuleLine, ArePortLines}
 use Rattle.hold_cli.proofs.CanonicalTokens.{simple_bytes, word_is, and_left, and_right}
-use Rattle.hold_cli.proofs.CanonicalLines.{spelled_simple, spelled_then, wire_line_is, wire_is}
+use Rattle.hold_cli.proofs.CanonicalLines.{wire_line_is, wire_is}
 
 -- ---- names
 

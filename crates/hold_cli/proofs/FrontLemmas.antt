@@ -1,5 +1,5 @@
 -- The order of work comes to one end: at most one fault is the first, and where there is one, nothing is left to repair.
-use Rattle.std.proofs.Common.{◌≡◌, ◌⊎◌, inl, inr, ℕ, ◌<◌, ◌≤◌, List, Option, Some, IsSome, arith, ap, sym, ◌∙◌, subst, refl, length}
+use Rattle.std.proofs.Common.{◌≡◌, inl, inr, ℕ, List, Some, IsSome, arith, ap, sym, ◌∙◌, subst, refl, length}
 use Rattle.hold_files.specs.Told.{Told}
 use Rattle.hold_cli.specs.declared.job_form.Job.{Job}
 use Rattle.hold_cli.specs.declared.outcome.Fault.{Fault}
@@ -8,7 +8,7 @@ use Rattle.hold_cli.specs.JobForm.{IsJobText}
 use Rattle.hold_cli.proofs.JobFormLemmas.{IsJobText-unique}
 use Rattle.hold_netlist.specs.Design.{Design}
 use Rattle.hold_netlist.specs.CanonicalText.{canonical_text}
-use Rattle.hold_cli.specs.Front.{file_limit, IsServed, HasText, IsTooLong, IsJobAt, HasNoJob, HasNoNetlist, ComesTo, IsTold, RefusesJob, RefusesNetlist, Refuses, IsFront}
+use Rattle.hold_cli.specs.Front.{IsServed, HasText, IsTooLong, IsJobAt, HasNoJob, HasNoNetlist, IsTold, RefusesJob, RefusesNetlist, Refuses, IsFront}
 
 one_text : (told : Told) (file a b : List ℕ) → told.content file ≡ Some a → told.content file ≡ Some b → a ≡ b
 one_text told file a b first second = cc

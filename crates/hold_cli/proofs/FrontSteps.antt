@@ -1,15 +1,14 @@
 -- The order of work, step by step: what is refused at a step is the first refusal over the files as they were at the beginning.
-use Rattle.std.proofs.Common.{◌≡◌, ◌⊎◌, inl, inr, ℕ, ◌<◌, ◌≤◌, List, Option, Some, None, IsSome, refl, ap, sym, ◌∙◌, subst, length}
+use Rattle.std.proofs.Common.{◌≡◌, inr, ℕ, ◌≤◌, List, Option, Some, None, IsSome, refl, ap, sym, ◌∙◌, subst, length}
 use Rattle.hold_files.specs.Told.{Told, OnlyReads}
 use Rattle.hold_cli.specs.declared.job_form.Job.{Job}
-use Rattle.hold_cli.specs.declared.input.Stopped.{Stopped}
 use Rattle.hold_cli.specs.declared.input.Stopped.TheVariants.{Refused}
 use Rattle.hold_cli.specs.declared.outcome.Fault.{Fault}
 use Rattle.hold_cli.specs.declared.outcome.Fault.TheVariants.{TooLong, NotBuilt}
 use Rattle.hold_cli.specs.JobForm.{IsJobText}
 use Rattle.hold_netlist.specs.Design.{Design}
 use Rattle.hold_netlist.specs.CanonicalText.{canonical_text}
-use Rattle.hold_cli.specs.Front.{file_limit, IsServed, HasText, IsTooLong, IsJobAt, HasNoJob, HasNoNetlist, IsTold, RefusesJob, RefusesNetlist, Refuses, IsFront}
+use Rattle.hold_cli.specs.Front.{file_limit, IsServed, HasText, IsJobAt, IsTold, RefusesJob, RefusesNetlist, Refuses, IsFront}
 
 -- a text that is no job is refused under its own name
 pub not_a_job : (told : Told) (name bytes copy : List ℕ) (fault : Fault) → Refused (NotBuilt copy) ≡ Refused fault → copy ≡ name → length bytes ≤ file_limit

@@ -1,10 +1,9 @@
 -- A job writes two files, not one.
-use Rattle.std.proofs.Common.{◌≡◌, ◌≢◌, ℕ, List, Bool, true, false, not, ◌&&◌, ◌||◌, cond, Option, Some, None, refl, sym, ap, subst}
+use Rattle.std.proofs.Common.{◌≡◌, ◌≢◌, ℕ, List, Bool, true, false, not, ◌&&◌, ◌||◌, cond, Option, Some, None, refl, subst}
 use Rattle.std.specs.Prelude.{bytes_eq}
 use Rattle.std.proofs.lemmas.Slice.Eq.{bytes_eq-Decides}
 use Rattle.std.proofs.lemmas.Bool.Decides.{not_from_Decides}
 use Rattle.std.proofs.lemmas.Option.{same_Some}
-use Rattle.toml.specs.Data.{Members}
 use Rattle.hold_cli.specs.declared.job_form.Job.{Job}
 use Rattle.hold_cli.specs.JobForm.{keeps_files, job_values, IsJobText}
 use Rattle.hold_cli.specs.JobFormKeys.{kept, has_only, keys_of}
@@ -23,20 +22,45 @@ kept_given : (b : Bool) (o : Option Job) (job : Job) → cond b o None ≡ Some 
 kept_given true o job e = e
 kept_given false o job e = cc
 
-third_false : (a b c d : Bool) → (not (a || b || c) && d) ≡ true → c ≡ false
-third_false a b false d e = refl
-third_false false false true d e = cc
-third_false false true true d e = cc
-third_false true b true d e = cc
+-- the files that keeps_files keeps apart
+pub record AreApart (own : List ℕ) (job : Job) : Type 0 where
+  pub output_own : job.output ≢ own
+  pub output_netlist : job.output ≢ job.netlist
+  pub output_certificate : job.output ≢ job.certificate
+  pub certificate_own : job.certificate ≢ own
+  pub certificate_netlist : job.certificate ≢ job.netlist
 
-apart : (own : List ℕ) (job : Job) → keeps_files own job ≡ true → job.certificate ≢ job.output
-apart own job keeps same =
-    not_from_Decides (bytes_eq job.output job.certificate) (bytes_eq-Decides job.output job.certificate)
-    (third_false (bytes_eq job.output own) (bytes_eq job.output job.netlist) (bytes_eq job.output job.certificate)
-    (not (bytes_eq job.certificate own || bytes_eq job.certificate job.netlist)) keeps)
-    (sym same)
+record AllFalse (a b c d e : Bool) : Type 0 where
+  first : a ≡ false
+  second : b ≡ false
+  third : c ≡ false
+  fourth : d ≡ false
+  fifth : e ≡ false
 
-pub IsJobText-apart : (text own : List ℕ) (job : Job) → IsJobText text own job → job.certificate ≢ job.output
+all_false : (a b c d e : Bool) → (not (a || b || c) && not (d || e)) ≡ true → AllFalse a b c d e
+all_false false false false false false is = record { first = refl; second = refl; third = refl; fourth = refl; fifth = refl }
+all_false false false false false true is = cc
+all_false false false false true e is = cc
+all_false false false true d e is = cc
+all_false false true c d e is = cc
+all_false true b c d e is = cc
+
+differ : (a b : List ℕ) → bytes_eq a b ≡ false → a ≢ b
+differ a b is = not_from_Decides (bytes_eq a b) (bytes_eq-Decides a b) is
+
+apart : (own : List ℕ) (job : Job) → keeps_files own job ≡ true → AreApart own job
+apart own job keeps =
+    let none = all_false (bytes_eq job.output own) (bytes_eq job.output job.netlist) (bytes_eq job.output job.certificate)
+    (bytes_eq job.certificate own) (bytes_eq job.certificate job.netlist) keeps in
+    record {
+      output_own = differ job.output own none.first;
+      output_netlist = differ job.output job.netlist none.second;
+      output_certificate = differ job.output job.certificate none.third;
+      certificate_own = differ job.certificate own none.fourth;
+      certificate_netlist = differ job.certificate job.netlist none.fifth;
+    }
+
+pub IsJobText-apart : (text own : List ℕ) (job : Job) → IsJobText text own job → AreApart own job
 IsJobText-apart text own job is =
     apart own job (kept_passes (keeps_files own) (job_values is.tree) job
     (kept_given (has_only (keys_of JobKeys) is.tree) (kept (keeps_files own) (job_values is.tree)) job is.gives))

@@ -1,10 +1,10 @@
 -- Two files and a line, written one after another: what stands when one of them failed, and when none did.
-use Rattle.std.proofs.Common.{◌≡◌, ◌≢◌, ◌⊎◌, inl, inr, ℕ, ◌<◌, ◌≤◌, List, [], ◌∷◌, ◌++◌, Option, Some, IsSome, arith, refl, sym}
-use Rattle.hold_files.specs.Told.{Told, Rose, Keeps, OnlyWrites, OnlySays, SameElsewhere}
+use Rattle.std.proofs.Common.{◌≡◌, ◌≢◌, inl, inr, ℕ, ◌≤◌, List, [], ◌∷◌, ◌++◌, Some, IsSome, arith, refl, sym}
+use Rattle.hold_files.specs.Told.{Told, Rose, OnlyWrites, OnlySays}
 use Rattle.hold_files.specs.Whole.{IsPartWritten, IsPartSaid}
 use Rattle.hold_cli.specs.declared.job_form.Job.{Job}
-use Rattle.hold_cli.specs.Texts.{Ready, AreWhole, NotAmong, OthersKeep, IsDone, FailsInFile, FailsInLine, Fails}
-use Rattle.hold_cli.specs.Answer.{repair_texts, whole_certificate, repaired_line, only_line}
+use Rattle.hold_cli.specs.Texts.{AreWhole, OthersKeep, IsDone, Fails}
+use Rattle.hold_cli.specs.Answer.{repair_texts, whole_certificate, repaired_line}
 
 -- a count that rose later rose since the beginning
 rose_since : (a b c : ℕ) → a ≤ b → Rose b c → Rose a c

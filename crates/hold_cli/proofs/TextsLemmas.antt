@@ -1,8 +1,7 @@
 -- What holds of texts that were written after reading holds from before the reading on.
-use Rattle.std.proofs.Common.{◌≡◌, ◌≢◌, ◌⊎◌, inl, inr, ℕ, ◌<◌, ◌≤◌, List, [], ◌∷◌, ◌++◌, Option, Some, IsSome, arith, ap}
+use Rattle.std.proofs.Common.{◌≡◌, inl, inr, ℕ, List, [], ◌∷◌, ◌++◌, arith, subst}
 use Rattle.hold_files.specs.Told.{Told, Rose, Keeps, OnlyReads}
-use Rattle.hold_files.specs.Whole.{IsPartWritten, IsPartSaid}
-use Rattle.hold_cli.specs.Texts.{Ready, AreWhole, NotAmong, OthersKeep, IsDone, FailsInFile, FailsInLine, Fails, SaysNothing}
+use Rattle.hold_cli.specs.Texts.{Ready, AreWhole, NotAmong, IsDone, FailsInFile, FailsInLine, Fails, SaysNothing}
 
 AreWhole-after : (old mid new : Told) (files : List (List ℕ × List ℕ)) → OnlyReads old mid → AreWhole mid new files → AreWhole old new files
 AreWhole-after old mid new [] reads whole = tt
@@ -55,3 +54,13 @@ Fails-after old mid new ready reads (inr fails) = inr (FailsInLine-after old mid
 
 pub SaysNothing-reads : (old new : Told) → OnlyReads old new → SaysNothing old new
 SaysNothing-reads old new reads = record { contents = reads.contents; said = reads.said }
+
+front_among : (q : List ℕ) (done rest : List (List ℕ × List ℕ)) (file : List ℕ × List ℕ) → NotAmong q (done ++ file ∷ rest) → NotAmong q (done ++ file ∷ [])
+front_among q [] rest file none = (none.0, tt)
+front_among q (f ∷ done) rest file none = (none.0, front_among q done rest file none.1)
+
+-- a file that is among no texts stays as it was when one of them fails
+pub Fails-keeps : (old new : Told) (ready : Ready) (q : List ℕ) → NotAmong q ready.files → Fails old new ready → Keeps old new q
+Fails-keeps old new ready q none (inl fails) =
+    fails.others q (front_among q fails.done fails.rest (fails.file, fails.text) (subst (λ (fs : List (List ℕ × List ℕ)). NotAmong q fs) fails.parts none))
+Fails-keeps old new ready q none (inr fails) = fails.others q none

@@ -2,20 +2,21 @@
 -- whole_certificate: the certificate of a netlist that meets every check as it is: no buffer costs nothing, and one leaf proves that nothing costs less.
 -- only_line: an answer that writes no file.
 -- repair_texts job netlist: what a repair without buffers writes: the certificate, the netlist's canonical text, and its line.
+-- AreTexts told name ready: the texts are the line of a refusal, or those of a repair of the job that was read from the file `name`.
 -- Comes told name outcome ready: the order of work on the job in the file `name` comes to this outcome over these contents, and has these texts
 --   ready. It never comes to a file that fails or to want of memory.
 -- IsAnswer old new name outcome: the outcome is right for the repair of the job in the file `name`, begun over the old moment and ended at the new one.
 --   IsRepaired: every text was written, and where the files were told, they are those of the job and its netlist. IsRefused: the line was said, and where the files were
 --   told, that fault is the first refusal. IsUnread: a read of that file failed, which the work comes to, and nothing changed. IsUnwritten: another
 --   outcome had its texts ready, and one of them failed.
-use Rattle.std.specs.Prelude.{◌≡◌, ℕ, List, [], ◌∷◌, ◌++◌, Some, codes}
+use Rattle.std.specs.Prelude.{◌≡◌, ◌⊎◌, ℕ, List, [], ◌∷◌, ◌++◌, Some, codes}
 use Rattle.hold_files.specs.Told.{Told, Rose}
 use Rattle.hold_cli.specs.declared.job_form.Job.{Job}
 use Rattle.hold_cli.specs.declared.outcome.Fault.{Fault}
 use Rattle.hold_cli.specs.declared.outcome.Fault.TheVariants.{TooLong, NotBuilt}
 use Rattle.hold_cli.specs.declared.outcome.Outcome.{Outcome}
 use Rattle.hold_cli.specs.declared.outcome.Outcome.TheVariants.{Repaired, Input, ReadFault, WriteFault, Memory, Words}
-use Rattle.hold_cli.specs.Front.{ComesTo, IsTold, Refuses, IsFront}
+use Rattle.hold_cli.specs.Front.{IsJobAt, IsJobRead, named_by, ComesTo, IsTold, RefusesJob, Refuses, IsFront}
 use Rattle.hold_cli.specs.Texts.{Ready, IsDone, Fails, FailsInLine, SaysNothing}
 use Rattle.hold_netlist.specs.Design.{Design}
 use Rattle.hold_netlist.specs.CanonicalText.{canonical_text}
@@ -39,15 +40,24 @@ only_line line = record { files = []; line = line }
 abbrev pub repair_texts : Job → List ℕ → Ready
 repair_texts job text = record { files = (job.certificate, whole_certificate) ∷ (job.output, text) ∷ []; line = repaired_line }
 
+-- the texts of a refusal, or of a repair of the job that was read
+abbrev pub AreTexts : Told → List ℕ → Ready → Type 0
+AreTexts told name ready =
+    ((fault : Fault) × (ready ≡ only_line (refusal_line fault)))
+    ⊎ ((job : Job) × (text : List ℕ) × IsJobRead told name job × (ready ≡ repair_texts job text))
+
 pub record IsRepaired (old new : Told) (name : List ℕ) (cost : ℕ) : Type 0 where
   pub job : Job
   pub text : List ℕ
   pub free : cost ≡ 0
+  pub read : IsJobRead old name job
   pub done : IsDone old new (repair_texts job text)
   pub front : IsTold old name → (netlist : Design) × IsFront old name job netlist × (text ≡ canonical_text netlist)
 
 pub record IsRefused (old new : Told) (name : List ℕ) (fault : Fault) : Type 0 where
   pub refuses : IsTold old name → Refuses old name fault
+  pub first : (text : List ℕ) → old.content name ≡ Some text
+      → RefusesJob old name fault ⊎ ((job : Job) × IsJobAt old name job × (named_by fault ≡ job.netlist))
   pub done : IsDone old new (only_line (refusal_line fault))
 
 pub record IsUnread (old new : Told) (name file : List ℕ) : Type 0 where
@@ -67,6 +77,7 @@ Comes told name Words ready = ⊥
 pub record IsUnwritten (old new : Told) (name : List ℕ) : Type 0 where
   pub ready : Ready
   pub fails : Fails old new ready
+  pub texts : AreTexts old name ready
   pub comes : IsTold old name → (outcome : Outcome) × Comes old name outcome ready
 
 -- what is right of each outcome

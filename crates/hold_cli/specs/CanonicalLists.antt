@@ -3,7 +3,7 @@
 -- rest, at whose front nothing fine is spelled; each of the xs is fine.
 -- IsJoined spell Fine text xs rest: the text is the spellings of the xs with a comma and a space between
 -- them, then `);` and a newline, and then the rest; each of the xs is fine.
-use Rattle.std.specs.Prelude.{◌≡◌, ℕ, List, [], ◌∷◌, ◌++◌, Bool, false, map, flat_map, codes}
+use Rattle.std.specs.Prelude.{◌≡◌, ℕ, List, [], ◌∷◌, ◌++◌, false, map, flat_map, codes}
 use Rattle.std.specs.List.{AllByRecursion}
 use Rattle.hold_netlist.specs.Identifier.{is_word_byte}
 use Rattle.hold_netlist.specs.CanonicalText.{joined}

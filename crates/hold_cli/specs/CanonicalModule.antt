@@ -3,8 +3,7 @@
 -- names, and then the rest; all the names are simple identifiers.
 -- ArePortLines text names ports rest: the text is the lines of scalar ports, which have those names in
 -- order, and then the rest.
-use Rattle.std.specs.Prelude.{◌≡◌, ℕ, List, ◌++◌, map, flat_map, codes}
-use Rattle.std.specs.List.{AllByRecursion}
+use Rattle.std.specs.Prelude.{◌≡◌, ℕ, List, ◌++◌, flat_map, codes}
 use Rattle.hold_netlist.specs.declared.wire.Port.{Port}
 use Rattle.hold_netlist.specs.Names.{port_names}
 use Rattle.hold_netlist.specs.CanonicalText.{spelled, port_line}

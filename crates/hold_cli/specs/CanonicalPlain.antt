@@ -6,7 +6,7 @@
 -- HasNoInstance d: nothing but ports and wires.
 -- IsPlainText text d: the text is the canonical text of the plain design d, whose parts fit together.
 -- scalar name: the scalar wire of that name.
-use Rattle.std.specs.Prelude.{◌≡◌, ℕ, List, [], Option, None, IsTrue}
+use Rattle.std.specs.Prelude.{◌≡◌, ℕ, List, [], None, IsTrue}
 use Rattle.std.specs.List.{AllByRecursion}
 use Rattle.hold_netlist.specs.declared.wire.Port.{Port}
 use Rattle.hold_netlist.specs.declared.wire.Wire.{Wire}

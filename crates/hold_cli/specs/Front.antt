@@ -7,6 +7,8 @@
 -- IsJobAt told name job: the file `name` holds this job.
 -- ComesTo told name file: the work on the job in the file `name` reads `file`: that file itself, or the netlist of the job in it.
 -- IsTold told name: the content of each file that the work comes to is told.
+-- IsJobRead told name job: the bytes that were read of the file `name` hold this job. Where the content of the file is told, these bytes are it.
+-- named_by fault: the file that a refusal names.
 -- HasNoJob, HasNoNetlist: the file is told and within the limit, and it is no job of the form, or no netlist of it.
 -- RefusesJob, RefusesNetlist: why that one file is refused. Refuses told name fault: the first refusal in the order of work: first the job's, then
 --   that of the netlist that the job names.
@@ -43,6 +45,15 @@ pub record IsJobAt (told : Told) (name : List ℕ) (job : Job) : Type 0 where
   pub text : List ℕ
   pub has : HasText told name text
   pub says : IsJobText text name job
+
+pub record IsJobRead (told : Told) (name : List ℕ) (job : Job) : Type 0 where
+  pub bytes : List ℕ
+  pub says : IsJobText bytes name job
+  pub are : (text : List ℕ) → told.content name ≡ Some text → bytes ≡ text
+
+abbrev pub named_by : Fault → List ℕ
+named_by (TooLong file) = file
+named_by (NotBuilt file) = file
 
 pub record HasNoJob (told : Told) (name : List ℕ) : Type 0 where
   pub text : List ℕ

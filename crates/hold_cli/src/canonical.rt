@@ -49,8 +49,8 @@ fn read_parts(alloc: Global, text: &[u8]) -> Result<Option<Parts>, Memory>
     Ok(Some(Parts { name, ports, wires }))
 }
 
-/// The netlist whose canonical text this is, where it is a plain one; `None` exactly where the text is the
-/// canonical text of no plain netlist.
+/// The netlist whose canonical text this is, where it is a plain one without instances; `None` exactly
+/// where the text is the canonical text of no such netlist.
 pub fn read(alloc: Global, text: &[u8]) -> Result<Option<Netlist>, Memory>
     ensures plain { IfOk result (λ o. IfSome o (λ n. IsPlain n)) }
     ensures bare { IfOk result (λ o. IfSome o (λ n. HasNoInstance n)) }

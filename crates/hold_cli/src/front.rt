@@ -1,10 +1,11 @@
-ghost use Rattle.std.specs.Prelude.{◌≡◌, ℕ, List, Some, IfOk, IsErrOf};
+ghost use Rattle.std.specs.Prelude.{◌≡◌, ◌⊎◌, ℕ, List, Some, IfOk, IsErrOf};
 ghost use Rattle.hold_files.specs.Told.{Rose, OnlyReads};
 ghost use Rattle.hold_cli.specs.declared.outcome.Fault.{Fault as Refusal};
+ghost use Rattle.hold_cli.specs.declared.job_form.Job.{Job as JobData};
 ghost use Rattle.hold_cli.specs.JobForm.{IsJobText};
 ghost use Rattle.hold_netlist.specs.Design.{Design};
 ghost use Rattle.hold_netlist.specs.CanonicalText.{canonical_text};
-ghost use Rattle.hold_cli.specs.Front.{IsServed, HasText, IsJobAt, ComesTo, IsTold, RefusesJob, RefusesNetlist, Refuses, IsFront};
+ghost use Rattle.hold_cli.specs.Front.{IsServed, HasText, IsJobAt, IsJobRead, named_by, ComesTo, IsTold, RefusesJob, RefusesNetlist, Refuses, IsFront};
 
 use crate::canonical;
 use crate::input::{Stopped, read_input};
@@ -24,11 +25,14 @@ pub struct Front {
 
 /// Reads the job and then the netlist that it names, and stops at the first refusal.
 pub fn read_front<F: Files>(alloc: Global, files: &mut F, name: &Name) -> Result<Front, Stopped>
-    ensures job { IfOk result (λ front. (text : List ℕ) × IsJobText text name.now front.job) }
+    ensures job { IfOk result (λ front. IsJobRead (F.told files.old) name.now front.job) }
     ensures found { IfOk result (λ front. IsTold (F.told files.old) name.now
         → (netlist : Design) × IsFront (F.told files.old) name.now front.job netlist × (front.text.items ≡ canonical_text netlist)) }
     ensures refused { (fault : Refusal) → IsErrOf result (Stopped.Refused fault)
         → IsTold (F.told files.old) name.now → Refuses (F.told files.old) name.now fault }
+    ensures first { (fault : Refusal) (text : List ℕ) → IsErrOf result (Stopped.Refused fault) → (F.told files.old).content name.now ≡ Some text
+        → RefusesJob (F.told files.old) name.now fault
+        ⊎ ((job : JobData) × IsJobAt (F.told files.old) name.now job × (named_by fault ≡ job.netlist)) }
     ensures read { (file : List ℕ) → IsErrOf result (Stopped.Read file)
         → Rose ((F.told files.old).read_faults file) ((F.told files.new).read_faults file) }
     ensures comes { (file text : List ℕ) → IsErrOf result (Stopped.Read file)
@@ -43,7 +47,7 @@ pub fn read_front<F: Files>(alloc: Global, files: &mut F, name: &Name) -> Result
 }
 
 fn read_job<F: Files>(alloc: Global, files: &mut F, name: &Name) -> Result<Job, Stopped>
-    ensures job { IfOk result (λ job. (text : List ℕ) × IsJobText text name.now job) }
+    ensures job { IfOk result (λ job. IsJobRead (F.told files.old) name.now job) }
     ensures at { IfOk result (λ job. (text : List ℕ) → (F.told files.old).content name.now ≡ Some text
         → IsJobAt (F.told files.old) name.now job) }
     ensures refused { (fault : Refusal) → IsErrOf result (Stopped.Refused fault) → (text : List ℕ)
@@ -68,6 +72,7 @@ fn read_netlist<F: Files>(alloc: Global, files: &mut F, name: &Name) -> Result<V
     ensures found { IfOk result (λ bytes. (text : List ℕ) → (F.told files.old).content name.now ≡ Some text
         → (netlist : Design) × IsServed netlist × HasText (F.told files.old) name.now (canonical_text netlist)
         × (bytes.items ≡ canonical_text netlist)) }
+    ensures named { (fault : Refusal) → IsErrOf result (Stopped.Refused fault) → named_by fault ≡ name.now }
     ensures refused { (fault : Refusal) → IsErrOf result (Stopped.Refused fault) → (text : List ℕ)
         → (F.told files.old).content name.now ≡ Some text → RefusesNetlist (F.told files.old) name.now fault }
     ensures read { (file : List ℕ) → IsErrOf result (Stopped.Read file) → file ≡ name.now }

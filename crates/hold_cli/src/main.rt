@@ -1,4 +1,5 @@
-//! `hold`: repairs the hold violations of a netlist by delay buffers, and proves that no cheaper way does.
+//! `hold`: is to repair the hold violations of a netlist by delay buffers at the least cost. Today it serves
+//! netlists of ports and wires, which need no buffer.
 #![tactic(auto)]
 
 mod answer;

@@ -2,13 +2,16 @@ ghost use Rattle.std.specs.Prelude.{◌≡◌};
 ghost use Rattle.hold_cli.specs.Outcome.{status_of};
 
 use hold_base::Name;
+use thiserror::Error;
 
 /// Why an input is refused.
-#[derive(Debug, Drop, PartialEq, Eq)]
+#[derive(Debug, Drop, PartialEq, Eq, Error)]
 pub enum Fault {
     /// The file of this name has more than 2^26 bytes.
+    #[error("an input file is too long")]
     TooLong(Name),
     /// The file of this name is outside the form that is served today.
+    #[error("an input file is outside the form that is served")]
     NotBuilt(Name),
 }
 

@@ -1,14 +1,14 @@
 ghost use Rattle.std.specs.Prelude.{◌≡◌, ◌≢◌, ◌⊎◌, ℕ, List, Some};
-ghost use Rattle.hold_files.specs.Told.{Rose, GoesOn};
+ghost use Rattle.hold_files.specs.Told.{Rose, Keeps, GoesOn};
 ghost use Rattle.hold_cli.specs.declared.outcome.Outcome.{Outcome as Answer};
 ghost use Rattle.hold_cli.specs.declared.outcome.Fault.{Fault as Refusal};
 ghost use Rattle.hold_cli.specs.Outcome.{GivesUp};
 ghost use Rattle.hold_cli.specs.Command.{IsRepair};
-ghost use Rattle.hold_cli.specs.Front.{ComesTo, IsTold, Refuses, IsFront};
+ghost use Rattle.hold_cli.specs.Front.{IsJobAt, IsJobRead, named_by, ComesTo, IsTold, RefusesJob, Refuses, IsFront};
 ghost use Rattle.hold_netlist.specs.Design.{Design};
 ghost use Rattle.hold_netlist.specs.CanonicalText.{canonical_text};
 ghost use Rattle.hold_cli.specs.declared.job_form.Job.{Job as JobData};
-ghost use Rattle.hold_cli.specs.Answer.{usage_line, refusal_line, only_line, repair_texts, Comes, IsAnswer, IsRefusal, IsDelivery};
+ghost use Rattle.hold_cli.specs.Answer.{usage_line, refusal_line, only_line, repair_texts, AreTexts, Comes, IsAnswer, IsRefusal, IsDelivery};
 ghost use Rattle.hold_cli.specs.Texts.{Ready, IsDone, Fails, FailsInLine, SaysNothing};
 
 use crate::answer::{USAGE, line_of, say_line, write_repair};
@@ -33,6 +33,9 @@ pub fn run<F: Files>(alloc: Global, words: &[Name], files: &mut F) -> Outcome
     // An input that is refused.
     ensures refused { (name : List ℕ) (fault : Refusal) → IsRepair words.now name → IsTold (F.told files.old) name
         → result ≡ Outcome.Input fault → Refuses (F.told files.old) name fault }
+    ensures first_refused { (name text : List ℕ) (fault : Refusal) → IsRepair words.now name → (F.told files.old).content name ≡ Some text
+        → result ≡ Outcome.Input fault → RefusesJob (F.told files.old) name fault
+        ⊎ ((job : JobData) × IsJobAt (F.told files.old) name job × (named_by fault ≡ job.netlist)) }
     ensures only_refused { (name : List ℕ) (fault : Refusal) → IsRepair words.now name → Refuses (F.told files.old) name fault
         → (result ≡ Outcome.Input fault) ⊎ GivesUp result }
     ensures refusal { (fault : Refusal) → result ≡ Outcome.Input fault
@@ -42,6 +45,9 @@ pub fn run<F: Files>(alloc: Global, words: &[Name], files: &mut F) -> Outcome
     ensures repaired { (name : List ℕ) (cost : ℕ) → IsRepair words.now name → IsTold (F.told files.old) name
         → result ≡ Outcome.Repaired cost → (job : JobData) × (netlist : Design) × IsFront (F.told files.old) name job netlist
         × (cost ≡ 0) × IsDone (F.told files.old) (F.told files.new) (repair_texts job (canonical_text netlist)) }
+    ensures repaired_texts { (name : List ℕ) (cost : ℕ) → IsRepair words.now name → result ≡ Outcome.Repaired cost
+        → (cost ≡ 0) × ((job : JobData) × (text : List ℕ) × IsJobRead (F.told files.old) name job
+        × IsDone (F.told files.old) (F.told files.new) (repair_texts job text)) }
     ensures only_repaired { (name : List ℕ) (job : JobData) (netlist : Design) → IsRepair words.now name
         → IsFront (F.told files.old) name job netlist → (result ≡ Outcome.Repaired 0) ⊎ GivesUp result }
 
@@ -59,7 +65,13 @@ pub fn run<F: Files>(alloc: Global, words: &[Name], files: &mut F) -> Outcome
         × Fails (F.told files.old) (F.told files.new) ready }
     ensures write_usage { ((job : List ℕ) → IsRepair words.now job → ⊥) → result ≡ Outcome.WriteFault
         → FailsInLine (F.told files.old) (F.told files.new) (only_line usage_line) }
-    ensures write_cause { result ≡ Outcome.WriteFault → (ready : Ready) × Fails (F.told files.old) (F.told files.new) ready }
+    ensures write_texts { (name : List ℕ) → IsRepair words.now name → result ≡ Outcome.WriteFault
+        → (ready : Ready) × AreTexts (F.told files.old) name ready × Fails (F.told files.old) (F.told files.new) ready }
+
+    // No input is ever written.
+    ensures job_stays { (name : List ℕ) → IsRepair words.now name → Keeps (F.told files.old) (F.told files.new) name }
+    ensures netlist_stays { (name : List ℕ) (job : JobData) → IsRepair words.now name → IsJobAt (F.told files.old) name job
+        → Keeps (F.told files.old) (F.told files.new) job.netlist }
 
     // Want of memory comes only to a command, and before anything is written.
     ensures memory { result ≡ Outcome.Memory → (name : List ℕ) × IsRepair words.now name }

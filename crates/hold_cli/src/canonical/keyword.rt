@@ -142,7 +142,7 @@ fn is_row(rows: &[&[u8]], word: &[u8]) -> bool
     false
 }
 
-/// Whether a word is reserved (IEEE 1364-2005, annex B).
+/// Whether a word is one of the listed ones, which are never simple identifiers.
 pub fn is_keyword(word: &[u8]) -> bool
     ensures { result ≡ is_among word.now keywords }
 {

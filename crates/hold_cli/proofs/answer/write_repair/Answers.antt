@@ -1,6 +1,4 @@
-use Rattle.hold_files.specs.Told.{Told}
-use Rattle.hold_cli.proofs.RepairTexts.{IsWritten, first_fails, second_fails, line_fails, all_done}
-use Rattle.hold_cli.specs.Answer.{whole_certificate}
+use Rattle.hold_cli.proofs.RepairTexts.{first_fails, second_fails, line_fails, all_done}
 use Rattle.hold_cli.proofs.answer.write_repair.Goals as goal
 
 pub returns-in_default-clause-failed : goal.returns-in_default-clause-failed

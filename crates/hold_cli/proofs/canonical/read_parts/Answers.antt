@@ -1,5 +1,4 @@
-use Rattle.std.proofs.Common.{List, ℕ, [], refl, sym, ◌∙◌}
-use Rattle.std.specs.Prelude.{codes}
+use Rattle.std.proofs.Common.{[], sym, ◌∙◌}
 use Rattle.hold_cli.proofs.CanonicalTokens.{same_text, other_text}
 use Rattle.hold_cli.proofs.CanonicalWhole.{no_module_line, no_port_lines, no_end, same_design, read_whole, rest_none}
 use Rattle.hold_cli.proofs.canonical.read_parts.Goals as goal

@@ -1,4 +1,4 @@
-use Rattle.std.proofs.Common.{◌≡◌, Err, ap}
+use Rattle.std.proofs.Common.{◌≡◌, Err, inr, ap}
 use Rattle.hold_cli.specs.declared.input.Stopped.TheVariants.{Refused}
 use Rattle.hold_files.proofs.ToldLemmas.{OnlyReads-trans}
 use Rattle.hold_cli.proofs.FrontSteps.{netlist_refused, netlist_found}
@@ -24,3 +24,8 @@ returns-in-Err-clause-refused g c = λ fault is.
     let same : c.in-Err.stopped ≡ Refused fault = cc in
     netlist_refused (g.F.Files.told c.args.files.now) (g.F.Files.told c.read_job.new.files) c.args.name.now c.in_ok-job.job fault
     c.read_job.ensures.stays c.in_ok-job.ensures.at (c.in-Err.ensures.refused fault (ap Err same))
+
+pub returns-in-Err-clause-first : goal.returns-in-Err-clause-first
+returns-in-Err-clause-first g c = λ fault text is told.
+    let same : c.in-Err.stopped ≡ Refused fault = cc in
+    inr (c.in_ok-job.job, c.in_ok-job.ensures.at text told, c.in-Err.ensures.named fault (ap Err same))

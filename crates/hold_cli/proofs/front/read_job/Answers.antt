@@ -1,4 +1,4 @@
-use Rattle.std.proofs.Common.{◌≡◌, ◌≤◌, ℕ, List, length, rules, Ok, Err, ap, sym, ◌∙◌, refl, subst}
+use Rattle.std.proofs.Common.{◌≡◌, ◌≤◌, ℕ, List, length, rules, Ok, ap, refl, subst}
 use Rattle.hold_cli.specs.declared.job_form.Job.{Job as JobData}
 use Rattle.hold_cli.specs.declared.input.Stopped.TheVariants.{Refused}
 use Rattle.hold_cli.specs.declared.outcome.Fault.TheVariants.{NotBuilt}

@@ -1,5 +1,5 @@
-use Rattle.std.proofs.Common.{◌≡◌, List, ℕ, ◌∷◌, [], ◌++◌, refl, sym, ap, ◌∙◌}
-use Rattle.hold_cli.proofs.CanonicalItems.{separator_of, separator_of-push}
+use Rattle.std.proofs.Common.{List, ℕ, ◌++◌, sym, ap, ◌∙◌}
+use Rattle.hold_cli.proofs.CanonicalItems.{separator_of-push}
 use Rattle.hold_cli.proofs.CanonicalLines.{names_step, names_unseparated, names_without, names_end}
 use Rattle.hold_cli.proofs.canonical.header.names.Goals as goal
 

@@ -1,4 +1,4 @@
-use Rattle.std.proofs.Common.{List, ℕ, ◌≡◌, ◌+◌, ◌∷◌, drop, arith, ap, ◌∙◌, sym}
+use Rattle.std.proofs.Common.{List, ℕ, ◌≡◌, ◌+◌, drop, arith, ap, ◌∙◌, sym}
 use Rattle.std.specs.Prelude.{codes, ◌++◌}
 use Rattle.hold_netlist.specs.declared.wire.Direction.{Direction}
 use Rattle.hold_netlist.specs.CanonicalText.{direction_text}

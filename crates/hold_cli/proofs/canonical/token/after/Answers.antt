@@ -1,4 +1,3 @@
-use Rattle.std.proofs.Common.{List, ℕ}
 use Rattle.hold_cli.proofs.CanonicalTokens.{front_differs}
 use Rattle.hold_cli.proofs.canonical.token.after.Goals as goal
 

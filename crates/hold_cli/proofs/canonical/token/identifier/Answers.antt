@@ -1,7 +1,3 @@
-use Rattle.std.proofs.Common.{List, ℕ, ◌∙◌, ap, take, drop}
-use Rattle.std.specs.List.{prefix_len}
-use Rattle.hold_netlist.specs.Identifier.{is_word_byte}
-use Rattle.hold_cli.specs.CanonicalLists.{EndsWord}
 use Rattle.hold_cli.proofs.CanonicalTokens.{word_front, word_ended, word_front_fits, identifier_only, identifier_none}
 use Rattle.hold_cli.proofs.canonical.token.identifier.Goals as goal
 

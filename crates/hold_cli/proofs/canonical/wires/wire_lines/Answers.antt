@@ -1,4 +1,3 @@
-use Rattle.std.proofs.Common.{List, ℕ}
 use Rattle.hold_cli.proofs.CanonicalLines.{wires_step, wires_end}
 use Rattle.hold_cli.proofs.canonical.wires.wire_lines.Goals as goal
 
