@@ -64,7 +64,7 @@ refused old mid new name fault (ReadFault file) reads refuses first never = absu
 refused old mid new name fault Words reads refuses first never = absurd never
 
 -- words name one job
-one_repair : (words : List (List ℕ)) (a b : List ℕ) → IsRepair words a → IsRepair words b → a ≡ b
+pub one_repair : (words : List (List ℕ)) (a b : List ℕ) → IsRepair words a → IsRepair words b → a ≡ b
 one_repair words a b first second = let e = first.words_are in let f = second.words_are in cc
 
 refused_alone : (old new : Told) (name : List ℕ) (fault : Fault) (outcome : Outcome) → IsAnswer old new name outcome → Refuses old name fault

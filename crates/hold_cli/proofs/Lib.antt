@@ -11,3 +11,4 @@ pub mod FrontLemmas
 pub mod FrontSteps
 pub mod RepairTexts
 pub mod Answers
+pub mod Complete

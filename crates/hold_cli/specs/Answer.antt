@@ -5,6 +5,7 @@
 -- AreTexts told name ready: the texts are the line of a refusal, or those of a repair of the job that was read from the file `name`.
 -- Comes told name outcome ready: the order of work on the job in the file `name` comes to this outcome over these contents, and has these texts
 --   ready. It never comes to a file that fails or to want of memory.
+-- IsCalm old new name job: no read of the job or of its netlist failed, no write of one of its outputs, and no saying.
 -- IsAnswer old new name outcome: the outcome is right for the repair of the job in the file `name`, begun over the old moment and ended at the new one.
 --   IsRepaired: every text was written, and where the files were told, they are those of the job and its netlist. IsRefused: the line was said, and where the files were
 --   told, that fault is the first refusal. IsUnread: a read of that file failed, which the work comes to, and nothing changed. IsUnwritten: another
@@ -73,6 +74,13 @@ Comes told name (ReadFault file) ready = ⊥
 Comes told name WriteFault ready = ⊥
 Comes told name Memory ready = ⊥
 Comes told name Words ready = ⊥
+
+pub record IsCalm (old new : Told) (name : List ℕ) (job : Job) : Type 0 where
+  pub job_read : Rose (old.read_faults name) (new.read_faults name) → ⊥
+  pub netlist_read : Rose (old.read_faults job.netlist) (new.read_faults job.netlist) → ⊥
+  pub certificate_written : Rose (old.write_faults job.certificate) (new.write_faults job.certificate) → ⊥
+  pub output_written : Rose (old.write_faults job.output) (new.write_faults job.output) → ⊥
+  pub line_said : Rose old.say_faults new.say_faults → ⊥
 
 pub record IsUnwritten (old new : Told) (name : List ℕ) : Type 0 where
   pub ready : Ready

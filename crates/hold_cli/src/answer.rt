@@ -50,8 +50,10 @@ pub fn say_line<F: Files>(files: &mut F, line: &[u8]) -> Result<(), Failed>
 /// Writes the certificate and the netlist of a repair without buffers, and says its line.
 pub fn write_repair<F: Files>(files: &mut F, job: &Job, netlist: &[u8]) -> Result<(), Failed>
     requires { job.now.certificate ≢ job.now.output }
-    ensures done { OnOk result (IsDone (F.told files.old) (F.told files.new) (repair_texts job.now netlist.now)) }
-    ensures failed { OnErr result (Fails (F.told files.old) (F.told files.new) (repair_texts job.now netlist.now)) }
+    ensures done { OnOk result
+        (IsDone (F.told files.old) (F.told files.new) (repair_texts job.now netlist.now)) }
+    ensures failed { OnErr result
+        (Fails (F.told files.old) (F.told files.new) (repair_texts job.now netlist.now)) }
     ensures goes_on { GoesOn (F.told files.old) (F.told files.new) }
 {
     let Ok(()) = write_whole(files, &job.certificate, WHOLE) else {

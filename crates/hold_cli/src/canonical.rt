@@ -55,7 +55,8 @@ pub fn read(alloc: Global, text: &[u8]) -> Result<Option<Netlist>, Memory>
     ensures plain { IfOk result (λ o. IfSome o (λ n. IsPlain n)) }
     ensures bare { IfOk result (λ o. IfSome o (λ n. HasNoInstance n)) }
     ensures spelled { IfOk result (λ o. IfSome o (λ n. text.now ≡ canonical_text n)) }
-    ensures none { IfOk result (λ o. IfNone o ((d : Design) → IsValid d → IsPlain d → HasNoInstance d → text.now ≢ canonical_text d)) }
+    ensures none { IfOk result (λ o. IfNone o ((d : Design) → IsValid d → IsPlain d
+        → HasNoInstance d → text.now ≢ canonical_text d)) }
 {
     let Some(parts) = read_parts(alloc, text)? else {
         return Ok(None);

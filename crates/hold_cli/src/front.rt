@@ -27,16 +27,20 @@ pub struct Front {
 pub fn read_front<F: Files>(alloc: Global, files: &mut F, name: &Name) -> Result<Front, Stopped>
     ensures job { IfOk result (λ front. IsJobRead (F.told files.old) name.now front.job) }
     ensures found { IfOk result (λ front. IsTold (F.told files.old) name.now
-        → (netlist : Design) × IsFront (F.told files.old) name.now front.job netlist × (front.text.items ≡ canonical_text netlist)) }
+        → (netlist : Design) × IsFront (F.told files.old) name.now front.job netlist
+        × (front.text.items ≡ canonical_text netlist)) }
     ensures refused { (fault : Refusal) → IsErrOf result (Stopped.Refused fault)
         → IsTold (F.told files.old) name.now → Refuses (F.told files.old) name.now fault }
-    ensures first { (fault : Refusal) (text : List ℕ) → IsErrOf result (Stopped.Refused fault) → (F.told files.old).content name.now ≡ Some text
+    ensures first { (fault : Refusal) (text : List ℕ) → IsErrOf result (Stopped.Refused fault)
+        → (F.told files.old).content name.now ≡ Some text
         → RefusesJob (F.told files.old) name.now fault
-        ⊎ ((job : JobData) × IsJobAt (F.told files.old) name.now job × (named_by fault ≡ job.netlist)) }
+        ⊎ ((job : JobData) × IsJobAt (F.told files.old) name.now job
+        × (named_by fault ≡ job.netlist)) }
     ensures read { (file : List ℕ) → IsErrOf result (Stopped.Read file)
         → Rose ((F.told files.old).read_faults file) ((F.told files.new).read_faults file) }
     ensures comes { (file text : List ℕ) → IsErrOf result (Stopped.Read file)
-        → (F.told files.old).content name.now ≡ Some text → ComesTo (F.told files.old) name.now file }
+        → (F.told files.old).content name.now ≡ Some text
+        → ComesTo (F.told files.old) name.now file }
     ensures stays { OnlyReads (F.told files.old) (F.told files.new) }
 {
     let job = read_job(alloc, files, name)?;
@@ -48,10 +52,12 @@ pub fn read_front<F: Files>(alloc: Global, files: &mut F, name: &Name) -> Result
 
 fn read_job<F: Files>(alloc: Global, files: &mut F, name: &Name) -> Result<Job, Stopped>
     ensures job { IfOk result (λ job. IsJobRead (F.told files.old) name.now job) }
-    ensures at { IfOk result (λ job. (text : List ℕ) → (F.told files.old).content name.now ≡ Some text
+    ensures at { IfOk result (λ job. (text : List ℕ)
+        → (F.told files.old).content name.now ≡ Some text
         → IsJobAt (F.told files.old) name.now job) }
     ensures refused { (fault : Refusal) → IsErrOf result (Stopped.Refused fault) → (text : List ℕ)
-        → (F.told files.old).content name.now ≡ Some text → RefusesJob (F.told files.old) name.now fault }
+        → (F.told files.old).content name.now ≡ Some text
+        → RefusesJob (F.told files.old) name.now fault }
     ensures read { (file : List ℕ) → IsErrOf result (Stopped.Read file) → file ≡ name.now }
     ensures cause { (file : List ℕ) → IsErrOf result (Stopped.Read file)
         → Rose ((F.told files.old).read_faults name.now) ((F.told files.new).read_faults name.now) }
@@ -69,12 +75,16 @@ fn read_job<F: Files>(alloc: Global, files: &mut F, name: &Name) -> Result<Job, 
 }
 
 fn read_netlist<F: Files>(alloc: Global, files: &mut F, name: &Name) -> Result<Vec<u8>, Stopped>
-    ensures found { IfOk result (λ bytes. (text : List ℕ) → (F.told files.old).content name.now ≡ Some text
-        → (netlist : Design) × IsServed netlist × HasText (F.told files.old) name.now (canonical_text netlist)
+    ensures found { IfOk result (λ bytes. (text : List ℕ)
+        → (F.told files.old).content name.now ≡ Some text
+        → (netlist : Design) × IsServed netlist
+        × HasText (F.told files.old) name.now (canonical_text netlist)
         × (bytes.items ≡ canonical_text netlist)) }
-    ensures named { (fault : Refusal) → IsErrOf result (Stopped.Refused fault) → named_by fault ≡ name.now }
+    ensures named { (fault : Refusal) → IsErrOf result (Stopped.Refused fault)
+        → named_by fault ≡ name.now }
     ensures refused { (fault : Refusal) → IsErrOf result (Stopped.Refused fault) → (text : List ℕ)
-        → (F.told files.old).content name.now ≡ Some text → RefusesNetlist (F.told files.old) name.now fault }
+        → (F.told files.old).content name.now ≡ Some text
+        → RefusesNetlist (F.told files.old) name.now fault }
     ensures read { (file : List ℕ) → IsErrOf result (Stopped.Read file) → file ≡ name.now }
     ensures cause { (file : List ℕ) → IsErrOf result (Stopped.Read file)
         → Rose ((F.told files.old).read_faults name.now) ((F.told files.new).read_faults name.now) }

@@ -44,12 +44,14 @@ impl From<Memory> for Stopped {
 
 /// The whole text of an input file.
 pub fn read_input<F: Files>(alloc: Global, files: &mut F, name: &Name) -> Result<Vec<u8>, Stopped>
-    ensures whole { IfOk result (λ bytes. (text : List ℕ) → (F.told files.old).content name.now ≡ Some text → bytes.items ≡ text) }
+    ensures whole { IfOk result (λ bytes. (text : List ℕ)
+        → (F.told files.old).content name.now ≡ Some text → bytes.items ≡ text) }
     ensures within { IfOk result (λ bytes. vec_len bytes ≤ file_limit) }
     ensures read { (file : List ℕ) → IsErrOf result (Stopped.Read file) → file ≡ name.now }
     ensures read_cause { (file : List ℕ) → IsErrOf result (Stopped.Read file)
         → Rose ((F.told files.old).read_faults name.now) ((F.told files.new).read_faults name.now) }
-    ensures refused { (fault : Refusal) → IsErrOf result (Stopped.Refused fault) → fault ≡ Fault.TooLong name.now }
+    ensures refused { (fault : Refusal) → IsErrOf result (Stopped.Refused fault)
+        → fault ≡ Fault.TooLong name.now }
     ensures too_long { (fault : Refusal) → IsErrOf result (Stopped.Refused fault) → (text : List ℕ)
         → (F.told files.old).content name.now ≡ Some text → file_limit < length text }
     ensures stays { OnlyReads (F.told files.old) (F.told files.new) }

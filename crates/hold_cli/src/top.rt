@@ -8,7 +8,7 @@ ghost use Rattle.hold_cli.specs.Front.{IsJobAt, IsJobRead, named_by, ComesTo, Is
 ghost use Rattle.hold_netlist.specs.Design.{Design};
 ghost use Rattle.hold_netlist.specs.CanonicalText.{canonical_text};
 ghost use Rattle.hold_cli.specs.declared.job_form.Job.{Job as JobData};
-ghost use Rattle.hold_cli.specs.Answer.{usage_line, refusal_line, only_line, repair_texts, AreTexts, Comes, IsAnswer, IsRefusal, IsDelivery};
+ghost use Rattle.hold_cli.specs.Answer.{usage_line, refusal_line, only_line, repair_texts, AreTexts, Comes, IsCalm, IsAnswer, IsRefusal, IsDelivery};
 ghost use Rattle.hold_cli.specs.Texts.{Ready, IsDone, Fails, FailsInLine, SaysNothing};
 
 use crate::answer::{USAGE, line_of, say_line, write_repair};
@@ -27,55 +27,79 @@ pub fn run<F: Files>(alloc: Global, words: &[Name], files: &mut F) -> Outcome
 
     // Words that are no command.
     ensures words { result ≡ Outcome.Words → (job : List ℕ) → IsRepair words.now job → ⊥ }
-    ensures only_words { ((job : List ℕ) → IsRepair words.now job → ⊥) → (result ≡ Outcome.Words) ⊎ (result ≡ Outcome.WriteFault) }
-    ensures usage { result ≡ Outcome.Words → IsDone (F.told files.old) (F.told files.new) (only_line usage_line) }
+    ensures only_words { ((job : List ℕ) → IsRepair words.now job → ⊥)
+        → (result ≡ Outcome.Words) ⊎ (result ≡ Outcome.WriteFault) }
+    ensures usage { result ≡ Outcome.Words
+        → IsDone (F.told files.old) (F.told files.new) (only_line usage_line) }
 
     // An input that is refused.
-    ensures refused { (name : List ℕ) (fault : Refusal) → IsRepair words.now name → IsTold (F.told files.old) name
+    ensures refused { (name : List ℕ) (fault : Refusal) → IsRepair words.now name
+        → IsTold (F.told files.old) name
         → result ≡ Outcome.Input fault → Refuses (F.told files.old) name fault }
-    ensures first_refused { (name text : List ℕ) (fault : Refusal) → IsRepair words.now name → (F.told files.old).content name ≡ Some text
+    ensures first_refused { (name text : List ℕ) (fault : Refusal) → IsRepair words.now name
+        → (F.told files.old).content name ≡ Some text
         → result ≡ Outcome.Input fault → RefusesJob (F.told files.old) name fault
         ⊎ ((job : JobData) × IsJobAt (F.told files.old) name job × (named_by fault ≡ job.netlist)) }
-    ensures only_refused { (name : List ℕ) (fault : Refusal) → IsRepair words.now name → Refuses (F.told files.old) name fault
+    ensures only_refused { (name : List ℕ) (fault : Refusal) → IsRepair words.now name
+        → Refuses (F.told files.old) name fault
         → (result ≡ Outcome.Input fault) ⊎ GivesUp result }
     ensures refusal { (fault : Refusal) → result ≡ Outcome.Input fault
         → IsDone (F.told files.old) (F.told files.new) (only_line (refusal_line fault)) }
 
     // A repair: what is written, where nothing is refused.
-    ensures repaired { (name : List ℕ) (cost : ℕ) → IsRepair words.now name → IsTold (F.told files.old) name
-        → result ≡ Outcome.Repaired cost → (job : JobData) × (netlist : Design) × IsFront (F.told files.old) name job netlist
-        × (cost ≡ 0) × IsDone (F.told files.old) (F.told files.new) (repair_texts job (canonical_text netlist)) }
-    ensures repaired_texts { (name : List ℕ) (cost : ℕ) → IsRepair words.now name → result ≡ Outcome.Repaired cost
+    ensures repaired { (name : List ℕ) (cost : ℕ) → IsRepair words.now name
+        → IsTold (F.told files.old) name
+        → result ≡ Outcome.Repaired cost
+        → (job : JobData) × (netlist : Design) × IsFront (F.told files.old) name job netlist × (cost ≡ 0)
+        × IsDone (F.told files.old) (F.told files.new) (repair_texts job (canonical_text netlist)) }
+    ensures repaired_texts { (name : List ℕ) (cost : ℕ) → IsRepair words.now name
+        → result ≡ Outcome.Repaired cost
         → (cost ≡ 0) × ((job : JobData) × (text : List ℕ) × IsJobRead (F.told files.old) name job
         × IsDone (F.told files.old) (F.told files.new) (repair_texts job text)) }
-    ensures only_repaired { (name : List ℕ) (job : JobData) (netlist : Design) → IsRepair words.now name
-        → IsFront (F.told files.old) name job netlist → (result ≡ Outcome.Repaired 0) ⊎ GivesUp result }
+    ensures only_repaired { (name : List ℕ) (job : JobData) (netlist : Design)
+        → IsRepair words.now name
+        → IsFront (F.told files.old) name job netlist
+        → (result ≡ Outcome.Repaired 0) ⊎ GivesUp result }
+
+    ensures complete { (name : List ℕ) (job : JobData) (netlist : Design) → IsRepair words.now name
+        → IsFront (F.told files.old) name job netlist
+        → IsCalm (F.told files.old) (F.told files.new) name job
+        → (result ≡ Outcome.Repaired 0) ⊎ (result ≡ Outcome.Memory) }
 
     // A file that can't be read.
     ensures read_fault { (file : List ℕ) → result ≡ Outcome.ReadFault file
         → Rose ((F.told files.old).read_faults file) ((F.told files.new).read_faults file) }
-    ensures read_comes { (name text file : List ℕ) → IsRepair words.now name → (F.told files.old).content name ≡ Some text
+    ensures read_comes { (name text file : List ℕ) → IsRepair words.now name
+        → (F.told files.old).content name ≡ Some text
         → result ≡ Outcome.ReadFault file → ComesTo (F.told files.old) name file }
-    ensures read_commanded { (file : List ℕ) → result ≡ Outcome.ReadFault file → (name : List ℕ) × IsRepair words.now name }
-    ensures unread { (file : List ℕ) → result ≡ Outcome.ReadFault file → SaysNothing (F.told files.old) (F.told files.new) }
+    ensures read_commanded { (file : List ℕ) → result ≡ Outcome.ReadFault file
+        → (name : List ℕ) × IsRepair words.now name }
+    ensures unread { (file : List ℕ) → result ≡ Outcome.ReadFault file
+        → SaysNothing (F.told files.old) (F.told files.new) }
 
     // A file or a line that can't be written: another answer was ready.
     ensures write_fault { (name : List ℕ) → IsRepair words.now name → IsTold (F.told files.old) name
-        → result ≡ Outcome.WriteFault → (answer : Answer) × (ready : Ready) × Comes (F.told files.old) name answer ready
+        → result ≡ Outcome.WriteFault
+        → (answer : Answer) × (ready : Ready) × Comes (F.told files.old) name answer ready
         × Fails (F.told files.old) (F.told files.new) ready }
-    ensures write_usage { ((job : List ℕ) → IsRepair words.now job → ⊥) → result ≡ Outcome.WriteFault
+    ensures write_usage { ((job : List ℕ) → IsRepair words.now job → ⊥)
+        → result ≡ Outcome.WriteFault
         → FailsInLine (F.told files.old) (F.told files.new) (only_line usage_line) }
     ensures write_texts { (name : List ℕ) → IsRepair words.now name → result ≡ Outcome.WriteFault
-        → (ready : Ready) × AreTexts (F.told files.old) name ready × Fails (F.told files.old) (F.told files.new) ready }
+        → (ready : Ready) × AreTexts (F.told files.old) name ready
+        × Fails (F.told files.old) (F.told files.new) ready }
 
     // No input is ever written.
-    ensures job_stays { (name : List ℕ) → IsRepair words.now name → Keeps (F.told files.old) (F.told files.new) name }
-    ensures netlist_stays { (name : List ℕ) (job : JobData) → IsRepair words.now name → IsJobAt (F.told files.old) name job
+    ensures job_stays { (name : List ℕ) → IsRepair words.now name
+        → Keeps (F.told files.old) (F.told files.new) name }
+    ensures netlist_stays { (name : List ℕ) (job : JobData) → IsRepair words.now name
+        → IsJobAt (F.told files.old) name job
         → Keeps (F.told files.old) (F.told files.new) job.netlist }
 
     // Want of memory comes only to a command, and before anything is written.
     ensures memory { result ≡ Outcome.Memory → (name : List ℕ) × IsRepair words.now name }
-    ensures unchanged { result ≡ Outcome.Memory → SaysNothing (F.told files.old) (F.told files.new) }
+    ensures unchanged { result ≡ Outcome.Memory
+        → SaysNothing (F.told files.old) (F.told files.new) }
 {
     match repair_job(words) {
         Some(name) => repair(alloc, name, files),

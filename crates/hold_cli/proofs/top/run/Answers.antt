@@ -1,4 +1,5 @@
 use Rattle.hold_cli.proofs.Answers.{only_refused, only_repaired, job_stays, netlist_stays}
+use Rattle.hold_cli.proofs.Complete.{complete}
 use Rattle.hold_cli.proofs.top.run.Goals as goal
 
 pub returns-in-Some-clause-only_refused : goal.returns-in-Some-clause-only_refused
@@ -20,3 +21,8 @@ pub returns-in-Some-clause-netlist_stays : goal.returns-in-Some-clause-netlist_s
 returns-in-Some-clause-netlist_stays g c = λ name job repair at.
     netlist_stays (g.F.Files.told c.args.files.now) (g.F.Files.told c.repair.new.files) c.args.words.now c.in-Some.name.now name job c.repair.result
     c.in-Some.ensures.found c.repair.ensures.answer repair at
+
+pub returns-in-Some-clause-complete : goal.returns-in-Some-clause-complete
+returns-in-Some-clause-complete g c = λ name job netlist repair front calm.
+    complete (g.F.Files.told c.args.files.now) (g.F.Files.told c.repair.new.files) c.args.words.now c.in-Some.name.now name job netlist c.repair.result
+    c.in-Some.ensures.found c.repair.ensures.answer repair front calm
