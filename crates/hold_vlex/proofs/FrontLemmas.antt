@@ -10,12 +10,10 @@ use Rattle.std.proofs.lemmas.List.Sums.{prefix_len-le-length}
 use Rattle.hold_vlex.specs.Lexed.{marks}
 use Rattle.std.specs.Char.{is_ascii_digit}
 use Rattle.hold_words.specs.Rows.{first_row}
-use Rattle.hold_vlex.specs.Bytes.{apostrophe, left_parenthesis, right_parenthesis, star, slash, backslash, backquote, is_blank, is_printed, is_in_line, begins_word, is_in_directive, continues_word, begins_number, continues_number, is_base, heads, IsSpelled}
-use Rattle.hold_vlex.specs.Front.{Front, Nothing, Past, Read, Bad, NoEnd, NoName, comment_end, attribute_end, within_after, is_plain, closed, line_directives, directive, escaped, number_sort, constant_sort, whole, front, IsWithin}
+use Rattle.hold_vlex.specs.Bytes.{quote, apostrophe, left_parenthesis, right_parenthesis, star, slash, backslash, backquote, is_blank, is_printed, is_in_line, begins_word, is_in_directive, continues_word, begins_number, continues_number, is_base, heads, IsSpelled}
+use Rattle.hold_vlex.specs.Front.{Front, Nothing, Past, Read, Bad, NoEnd, NoName, comment_end, attribute_end, string_end, after_backslash, closed, line_directives, directive, escaped, number_sort, constant_sort, whole, front, IsWithin}
 use Rattle.hold_vlex.specs.declared.token.Sort.{Sort}
 use Rattle.hold_vlex.specs.declared.token.Sort.TheVariants.{Word, Escaped, Number, Constant, Directive, Other}
-use Rattle.hold_vlex.specs.declared.past.Within.{Within}
-use Rattle.hold_vlex.specs.declared.past.Within.TheVariants.{Plain}
 
 heads-length : (b : ℕ) (bs : List ℕ) → heads b bs ≡ true → 0 < length bs
 heads-length b [] h = absurd cc
@@ -26,29 +24,43 @@ both-right true b h = h
 both-right false b h = absurd cc
 
 -- an end stands after its sign, within the text
-pub comment_end-within : (n : ℕ) (bs : List ℕ) → IfSome (comment_end n bs) (λ e. (n < e) × (e ≤ n + length bs))
+abbrev EndsWithin : ℕ → List ℕ → Option ℕ → Type 0
+EndsWithin n bs end = IfSome end (λ e. (n < e) × (e ≤ n + length bs))
+
+EndsWithin-later : (n b : ℕ) (bs : List ℕ) (o : Option ℕ) → EndsWithin (n + 1) bs o → EndsWithin n (b ∷ bs) o
+EndsWithin-later n b bs None h = tt
+EndsWithin-later n b bs (Some e) h = (omega arith, omega arith)
+
+pub comment_end-within : (n : ℕ) (bs : List ℕ) → EndsWithin n bs (comment_end n bs)
 comment_end-within n [] = tt
 comment_end-within n (b ∷ bs) =
     let rest = comment_end-within (n + 1) bs in
-    cond_both (b == star && heads slash bs) (Some (n + 2)) (comment_end (n + 1) bs) (λ o. IfSome o (λ e. (n < e) × (e ≤ n + length (b ∷ bs))))
+    cond_both (b == star && heads slash bs) _ _ (EndsWithin n (b ∷ bs))
     (λ h. let more : 0 < length bs = heads-length slash bs (both-right (b == star) (heads slash bs) h) in (omega arith, omega arith))
-    (λ _. later (comment_end (n + 1) bs) rest)
-  where
-    later : (o : Option ℕ) → IfSome o (λ e. (n + 1 < e) × (e ≤ n + 1 + length bs)) → IfSome o (λ e. (n < e) × (e ≤ n + length (b ∷ bs)))
-    later None h = tt
-    later (Some e) h = (omega arith, omega arith)
+    (λ _. EndsWithin-later n b bs _ rest)
 
-pub attribute_end-within : (w : Within) (n : ℕ) (bs : List ℕ) → IfSome (attribute_end w n bs) (λ e. (n < e) × (e ≤ n + length bs))
-attribute_end-within w n [] = tt
-attribute_end-within w n (b ∷ bs) =
-    let rest = attribute_end-within (within_after w b) (n + 1) bs in
-    cond_both (is_plain w && (b == star && heads right_parenthesis bs)) (Some (n + 2)) (attribute_end (within_after w b) (n + 1) bs) (λ o. IfSome o (λ e. (n < e) × (e ≤ n + length (b ∷ bs))))
-    (λ h. let more : 0 < length bs = heads-length right_parenthesis bs (both-right (b == star) (heads right_parenthesis bs) (both-right (is_plain w) (b == star && heads right_parenthesis bs) h)) in (omega arith, omega arith))
-    (λ _. later (attribute_end (within_after w b) (n + 1) bs) rest)
-  where
-    later : (o : Option ℕ) → IfSome o (λ e. (n + 1 < e) × (e ≤ n + 1 + length bs)) → IfSome o (λ e. (n < e) × (e ≤ n + length (b ∷ bs)))
-    later None h = tt
-    later (Some e) h = (omega arith, omega arith)
+mutual
+  pub attribute_end-within : (n : ℕ) (bs : List ℕ) → EndsWithin n bs (attribute_end n bs)
+  attribute_end-within n [] = tt
+  attribute_end-within n (b ∷ bs) =
+      let string = string_end-within (n + 1) bs in
+      let rest = attribute_end-within (n + 1) bs in
+      cond_both (b == star && heads right_parenthesis bs) _ _ (EndsWithin n (b ∷ bs))
+      (λ h. let more : 0 < length bs = heads-length right_parenthesis bs (both-right (b == star) (heads right_parenthesis bs) h) in (omega arith, omega arith))
+      (λ _. cond_both (b == quote) _ _ (EndsWithin n (b ∷ bs)) (λ _. EndsWithin-later n b bs _ string) (λ _. EndsWithin-later n b bs _ rest))
+
+  string_end-within : (n : ℕ) (bs : List ℕ) → EndsWithin n bs (string_end n bs)
+  string_end-within n [] = tt
+  string_end-within n (b ∷ bs) =
+      let outside = attribute_end-within (n + 1) bs in
+      let pair = after_backslash-within (n + 1) bs in
+      let rest = string_end-within (n + 1) bs in
+      cond_both (b == quote) _ _ (EndsWithin n (b ∷ bs)) (λ _. EndsWithin-later n b bs _ outside)
+      (λ _. cond_both (b == backslash) _ _ (EndsWithin n (b ∷ bs)) (λ _. EndsWithin-later n b bs _ pair) (λ _. EndsWithin-later n b bs _ rest))
+
+  after_backslash-within : (n : ℕ) (bs : List ℕ) → EndsWithin n bs (after_backslash n bs)
+  after_backslash-within n [] = tt
+  after_backslash-within n (b ∷ bs) = EndsWithin-later n b bs _ (string_end-within (n + 1) bs)
 
 -- What stands at the front takes at least one byte and no more than there are, and a token's text is the bytes
 -- behind its mark.
@@ -180,7 +192,7 @@ front-Fits (b ∷ bs) =
     (λ _. cond_both (b == slash && heads star bs) _ _ P
     (λ h. Fits-closed _ bs b (heads-length star bs (both-right (b == slash) (heads star bs) h)) (comment_end-within 2 (drop 1 bs)))
     (λ _. cond_both (b == left_parenthesis && heads star bs) _ _ P
-    (λ h. Fits-closed _ bs b (heads-length star bs (both-right (b == left_parenthesis) (heads star bs) h)) (attribute_end-within Plain 2 (drop 1 bs)))
+    (λ h. Fits-closed _ bs b (heads-length star bs (both-right (b == left_parenthesis) (heads star bs) h)) (attribute_end-within 2 (drop 1 bs)))
     (λ _. cond_both (b == backquote) _ _ P
     (λ h. let e : backquote ≡ b = sym ((Decides-eqb b backquote).0 h) in subst (λ c. Fits (c ∷ bs) (directive (take_while is_in_directive bs) bs)) e (Fits-directive bs))
     (λ _. cond_both (b == backslash) _ _ P (λ _. Fits-escaped b bs)

@@ -1,3 +1,4 @@
 pub mod FrontLemmas
 pub mod LexedLemmas
+pub mod PastLemmas
 pub mod SliceLemmas

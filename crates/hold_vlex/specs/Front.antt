@@ -6,9 +6,11 @@
 -- IsWithin len f: what f takes is at least one byte and at most len, and a bad byte stands before len.
 -- comment_end n text: the place after the first `*/`, where the text's first byte has the place n; None where
 --   there is no such sign.
--- attribute_end within n text: the place after the first `*)` that is in no string, where the text's first byte
---   has the place n and stands in plain text, in a string, or after a backslash in a string; None where there
---   is no such sign.
+-- attribute_end n text: the place after the first `*)` that is in no string, where the text's first byte has the
+--   place n and is in no string itself; None where there is no such sign, as where a string never ends.
+-- string_end n text: the same where the text's first byte is in a string, which ends at its next quote.
+-- after_backslash n text: the same where the text's first byte stands after a backslash in a string, and so
+--   neither ends the string nor takes the byte after it.
 -- closed end: what is read past up to that end, or NoEnd where there is none.
 -- line_directives: the directives that are read past with the rest of their line.
 -- directive run bs: what a backquote opens, where bs follows it and run is its name, which may be empty: past
@@ -19,15 +21,13 @@
 --   Constant where it is `1'`, a base and `0` or `1`, and nothing more; else Other.
 -- whole sort text: a token whose text is all that it takes.
 -- front text: what stands at the front of the text.
-use Rattle.std.specs.Prelude.{ℕ, ◌+◌, ◌<◌, ◌≤◌, Bool, true, false, ◌&&◌, ◌==◌, if◌then◌else◌, List, [], ◌∷◌, length, drop, slice_get, Option, Some, None, is_some, codes}
+use Rattle.std.specs.Prelude.{ℕ, ◌+◌, ◌<◌, ◌≤◌, true, false, ◌&&◌, ◌==◌, if◌then◌else◌, List, [], ◌∷◌, length, drop, slice_get, Option, Some, None, is_some, codes}
 use Rattle.std.specs.List.{prefix_len, take_while, list_all}
 use Rattle.std.specs.Char.{is_ascii_digit}
 use Rattle.hold_words.specs.Rows.{first_row}
 use Rattle.hold_vlex.specs.Bytes.{quote, apostrophe, left_parenthesis, right_parenthesis, star, slash, backslash, backquote, is_blank, is_printed, is_in_line, begins_word, is_in_directive, continues_word, begins_number, continues_number, is_base, heads}
 use Rattle.hold_vlex.specs.declared.token.Sort.{Sort}
 use Rattle.hold_vlex.specs.declared.token.Sort.TheVariants.{Word, Escaped, Number, Constant, Directive, Sign, Other}
-use Rattle.hold_vlex.specs.declared.past.Within.{Within}
-use Rattle.hold_vlex.specs.declared.past.Within.TheVariants.{Plain, Quoted, Slashed}
 
 pub data Front : Type 0 where
   Nothing : Front
@@ -41,22 +41,24 @@ abbrev pub comment_end : ℕ → List ℕ → Option ℕ
 comment_end n [] = None
 comment_end n (b ∷ bs) = if b == star && heads slash bs then Some (n + 2) else comment_end (n + 1) bs
 
--- a string ends at its next quote, and a backslash in it takes the next byte
-abbrev pub within_after : Within → ℕ → Within
-within_after Plain b = if b == quote then Quoted else Plain
-within_after Quoted b = if b == quote then Plain else (if b == backslash then Slashed else Quoted)
-within_after Slashed b = Quoted
+abbrev mutual
+  pub attribute_end : ℕ → List ℕ → Option ℕ
+  attribute_end n [] = None
+  attribute_end n (b ∷ bs) =
+      if b == star && heads right_parenthesis bs then Some (n + 2)
+      else (if b == quote then string_end (n + 1) bs
+      else attribute_end (n + 1) bs)
 
-abbrev pub is_plain : Within → Bool
-is_plain Plain = true
-is_plain Quoted = false
-is_plain Slashed = false
+  pub string_end : ℕ → List ℕ → Option ℕ
+  string_end n [] = None
+  string_end n (b ∷ bs) =
+      if b == quote then attribute_end (n + 1) bs
+      else (if b == backslash then after_backslash (n + 1) bs
+      else string_end (n + 1) bs)
 
-abbrev pub attribute_end : Within → ℕ → List ℕ → Option ℕ
-attribute_end within n [] = None
-attribute_end within n (b ∷ bs) =
-    if is_plain within && (b == star && heads right_parenthesis bs) then Some (n + 2)
-    else attribute_end (within_after within b) (n + 1) bs
+  pub after_backslash : ℕ → List ℕ → Option ℕ
+  after_backslash n [] = None
+  after_backslash n (b ∷ bs) = string_end (n + 1) bs
 
 abbrev pub closed : Option ℕ → Front
 closed (Some n) = Past n
@@ -96,7 +98,7 @@ front (b ∷ bs) =
     if is_blank b then Past 1
     else (if b == slash && heads slash bs then Past (1 + prefix_len is_in_line bs)
     else (if b == slash && heads star bs then closed (comment_end 2 (drop 1 bs))
-    else (if b == left_parenthesis && heads star bs then closed (attribute_end Plain 2 (drop 1 bs))
+    else (if b == left_parenthesis && heads star bs then closed (attribute_end 2 (drop 1 bs))
     else (if b == backquote then directive (take_while is_in_directive bs) bs
     else (if b == backslash then escaped (take_while is_printed bs) (slice_get bs (prefix_len is_printed bs))
     else (if begins_word b then whole Word (b ∷ take_while continues_word bs)

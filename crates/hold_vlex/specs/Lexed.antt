@@ -1,5 +1,6 @@
 -- Lexeme: a token without where it lies in memory: its sort, its text (of an escaped name without the
---   backslash, of a directive with the backquote) and the place of its first byte, from 0.
+--   backslash, of a directive with the backquote) and the place where it begins, from 0: that of its first byte,
+--   and of an escaped name that of the backslash, one before its text.
 -- lexeme t: the lexeme of a token.
 -- Lexed: what is read from a text: its tokens in order, up to its end or up to the first fault, and that fault.
 --   A text without a fault has None there. An empty text has no tokens and no fault.

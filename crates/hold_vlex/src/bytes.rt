@@ -2,30 +2,35 @@ ghost use Rattle.std.specs.Prelude.{◌≡◌, ◌≤◌, length, drop};
 ghost use Rattle.std.specs.List.{prefix_len};
 ghost use Rattle.hold_vlex.specs.Bytes.{is_blank, is_printed, is_in_line, begins_word, is_in_directive, continues_word, begins_number, continues_number, is_base, heads};
 
+/// White space: space, tab, newline, carriage return or form feed.
 pub fn is_blank(b: u8) -> bool
     ensures { result ≡ is_blank b }
 {
     matches!(b, b' ' | b'\t' | b'\n' | b'\r' | 0x0c)
 }
 
+/// A byte from 33 to 126, which is no blank.
 pub fn is_printed(b: u8) -> bool
     ensures { result ≡ is_printed b }
 {
     33 <= b && b <= 126
 }
 
+/// What a simple identifier or a keyword begins with: a letter or `_`.
 pub fn begins_word(b: u8) -> bool
     ensures { result ≡ begins_word b }
 {
     b.is_ascii_alphabetic() || b == b'_'
 }
 
+/// What a number begins with: a digit or an apostrophe.
 pub fn begins_number(b: u8) -> bool
     ensures { result ≡ begins_number b }
 {
     b.is_ascii_digit() || b == b'\''
 }
 
+/// The letter of a base: b, d, h or o in either case.
 pub fn is_base(b: u8) -> bool
     ensures { result ≡ is_base b }
 {
@@ -58,6 +63,7 @@ pub fn line_len(text: &[u8]) -> usize
     text.iter().take_while(|b| **b != b'\n').count()
 }
 
+/// How many printed bytes stand at the front.
 pub fn printed_len(text: &[u8]) -> usize
     ensures value { result ≡ prefix_len is_printed text.now }
     ensures within { result ≤ length text.now }
@@ -65,6 +71,7 @@ pub fn printed_len(text: &[u8]) -> usize
     text.iter().take_while(|b| is_printed(**b)).count()
 }
 
+/// How many bytes at the front belong to the name of a directive: letters, digits and `_`.
 pub fn directive_len(text: &[u8]) -> usize
     ensures value { result ≡ prefix_len is_in_directive text.now }
     ensures within { result ≤ length text.now }
@@ -72,6 +79,7 @@ pub fn directive_len(text: &[u8]) -> usize
     text.iter().take_while(|b| is_in_directive(**b)).count()
 }
 
+/// How many bytes at the front continue a word: letters, digits, `_` and `$`.
 pub fn word_len(text: &[u8]) -> usize
     ensures value { result ≡ prefix_len continues_word text.now }
     ensures within { result ≤ length text.now }
@@ -79,6 +87,7 @@ pub fn word_len(text: &[u8]) -> usize
     text.iter().take_while(|b| continues_word(**b)).count()
 }
 
+/// How many bytes at the front continue a number: what continues a word, and apostrophes.
 pub fn number_len(text: &[u8]) -> usize
     ensures value { result ≡ prefix_len continues_number text.now }
     ensures within { result ≤ length text.now }

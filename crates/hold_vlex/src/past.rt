@@ -1,5 +1,6 @@
 ghost use Rattle.std.specs.Prelude.{◌≡◌, ◌≤◌, length, drop};
-ghost use Rattle.hold_vlex.specs.Front.{comment_end, attribute_end, within_after, is_plain};
+ghost use Rattle.hold_vlex.specs.Front.{comment_end, attribute_end};
+ghost use Rattle.hold_vlex.specs.Past.{within_after, is_plain};
 
 use crate::bytes::stands_at;
 
@@ -49,9 +50,10 @@ pub fn comment_end(text: &[u8]) -> Option<usize>
 }
 
 /// The place after the end of the attribute, in a text that begins with the attribute's opening sign.
+#[tactic(auto, using(crate::proofs::PastLemmas::end_from_next))]
 pub fn attribute_end(text: &[u8]) -> Option<usize>
     requires { 2 ≤ length text.now }
-    ensures { result ≡ attribute_end Within.Plain 2 (drop 2 text.now) }
+    ensures { result ≡ attribute_end 2 (drop 2 text.now) }
 {
     let mut within = Within::Plain;
     for i in 2..text.len() {

@@ -13,14 +13,17 @@ pub enum Sort {
     Directive,
     /// One byte of punctuation.
     Sign,
-    /// Any other number.
+    /// Any other run that begins with a digit or an apostrophe.
     Other,
 }
 
-/// A token: its bytes, which lie in the text that was read, and the place of its first byte there, from 0.
+/// A token.
 #[derive(Clone, Copy, Debug)]
 pub struct Token<'a> {
     pub sort: Sort,
+    /// Its bytes, which lie in the text that was read.
     pub text: &'a [u8],
+    /// The place where it begins in the text that was read, from 0: that of its first byte, and of an escaped
+    /// name that of the backslash, one before its first byte.
     pub at: u64,
 }
