@@ -12,14 +12,6 @@ pub all_push : {X : Type 0} (P : X → Type 0) (xs : List X) (x : X) → AllByRe
 all_push P [] x all here = (here, tt)
 all_push P (y ∷ ys) x all here = (all.0, all_push P ys x all.1 here)
 
-pub all_front : {X : Type 0} (P : X → Type 0) (xs ys : List X) → AllByRecursion P (xs ++ ys) → AllByRecursion P xs
-all_front P [] ys all = tt
-all_front P (x ∷ xs) ys all = (all.0, all_front P xs ys all.1)
-
-pub all_behind : {X : Type 0} (P : X → Type 0) (xs ys : List X) → AllByRecursion P (xs ++ ys) → AllByRecursion P ys
-all_behind P [] ys all = all
-all_behind P (x ∷ xs) ys all = all_behind P xs ys all.1
-
 flat_map-append : {X : Type 0} (f : X → List ℕ) (xs ys : List X) → flat_map f (xs ++ ys) ≡ flat_map f xs ++ flat_map f ys
 flat_map-append f [] ys = refl
 flat_map-append f (x ∷ xs) ys = ap (λ (t : List ℕ). f x ++ t) (flat_map-append f xs ys) ∙ sym (append_assoc (f x) (flat_map f xs) (flat_map f ys))
@@ -36,9 +28,6 @@ pub record IsReadSoFar {X : Type 0} (spell : X → List ℕ) (Fine : X → Type 
   pub next : (xs : List X) (rest : List ℕ) → IsItems spell Fine text xs rest → (ys : List X) × (xs ≡ done ++ ys) × IsItems spell Fine left ys rest
 
 module _ {X : Type 0} (spell : X → List ℕ) (Fine : X → Type 0) where
-  pub items_begin : (text : List ℕ) → IsReadSoFar spell Fine text [] text
-  items_begin text = record { so_far = refl; fine = tt; next = λ xs rest h. (xs, refl, h) }
-
   -- where x is spelled and nothing else
   rest_items : (left rest : List ℕ) (x : X) (after : List ℕ) (ys : List X) → Fine x → left ≡ spell x ++ after
       → ((y : X) (r : List ℕ) → Fine y → left ≡ spell y ++ r → (y ≡ x) × (r ≡ after))
@@ -70,10 +59,6 @@ module _ {X : Type 0} (spell : X → List ℕ) (Fine : X → Type 0) where
       → ((y : X) (r : List ℕ) → Fine y → left ≡ spell y ++ r → ⊥)
       → (xs : List X) (rest : List ℕ) → IsItems spell Fine text xs rest → (done ≡ xs) × (left ≡ rest)
   items_end text left done h none xs rest whole = let more = h.next xs rest whole in end_left left rest done xs more.0 none more.1 more.2
-
-  pub items_found : (text left : List ℕ) (done : List X) → IsReadSoFar spell Fine text done left
-      → ((y : X) (r : List ℕ) → Fine y → left ≡ spell y ++ r → ⊥) → IsItems spell Fine text done left
-  items_found text left done h none = record { parts = h.so_far; fine = h.fine; stop = none }
 
 -- ---- items with a comma and a space between
 
@@ -140,9 +125,6 @@ following_ends spell [] rest = refl
 following_ends spell (y ∷ ys) rest = refl
 
 module _ {X : Type 0} (spell : X → List ℕ) (Fine : X → Type 0) where
-  pub joined_begin : (text : List ℕ) → IsJoinedSoFar spell Fine text [] text
-  joined_begin text = record { so_far = refl; fine = tt; next = λ xs rest h. (xs, refl, h.fine, h.parts) }
-
   -- what is left where an item follows
   left_more : (left : List ℕ) (done : List X) (y : X) (ys : List X) (rest : List ℕ) → left ≡ tail_text spell done (y ∷ ys) ++ (codes ");\n" ++ rest)
       → left ≡ separator_of done ++ (spell y ++ (following spell ys ++ (codes ");\n" ++ rest)))
@@ -215,6 +197,3 @@ module _ {X : Type 0} (spell : X → List ℕ) (Fine : X → Type 0) where
       → (xs : List X) (rest : List ℕ) → IsJoined spell Fine text xs rest → (done ≡ xs) × (after ≡ rest)
   joined_end text left after done h parts apart xs rest whole =
       let more = h.next xs rest whole in end_joined left after rest done xs more.0 parts apart more.1 more.2 more.3
-
-  pub joined_found : (text left after : List ℕ) (done : List X) → IsJoinedSoFar spell Fine text done left → left ≡ codes ");\n" ++ after → IsJoined spell Fine text done after
-  joined_found text left after done h parts = record { parts = h.so_far ∙ ap (λ (t : List ℕ). joined (map spell done) ++ t) parts; fine = h.fine }

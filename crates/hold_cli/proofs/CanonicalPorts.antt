@@ -3,7 +3,7 @@ use Rattle.std.proofs.Common.{◌≡◌, ℕ, zero, suc, ◌+◌, ◌<◌, ◌�
 use Rattle.std.specs.Prelude.{codes, flat_map}
 use Rattle.std.specs.List.{AllByRecursion}
 use Rattle.std.proofs.Math.Seq.{take-add}
-use Rattle.std.proofs.lemmas.List.{append-nil, drop_more, take_all, drop_all, map_push, drop-drop}
+use Rattle.std.proofs.lemmas.List.{append-nil, drop_more, drop_all, map_push, drop-drop}
 use Rattle.hold_netlist.specs.declared.wire.Port.{Port}
 use Rattle.hold_netlist.specs.declared.wire.Direction.{Direction}
 use Rattle.hold_netlist.specs.Names.{port_names}
@@ -17,10 +17,10 @@ all_drop zero names all = all
 all_drop (suc i) [] all = tt
 all_drop (suc i) (n ∷ ns) all = all_drop i ns all.1
 
-drop_one : (xs : List (List ℕ)) (i : ℕ) (x : List ℕ) (more : List (List ℕ)) → drop i xs ≡ x ∷ more → drop (i + 1) xs ≡ more
+pub drop_one : (xs : List (List ℕ)) (i : ℕ) (x : List ℕ) (more : List (List ℕ)) → drop i xs ≡ x ∷ more → drop (i + 1) xs ≡ more
 drop_one xs i x more e = sym (drop-drop 1 i xs) ∙ ap (λ (ys : List (List ℕ)). drop 1 ys) e
 
-take_one : (xs : List (List ℕ)) (i : ℕ) (x : List ℕ) (more : List (List ℕ)) → drop i xs ≡ x ∷ more → take (i + 1) xs ≡ take i xs ++ x ∷ []
+pub take_one : (xs : List (List ℕ)) (i : ℕ) (x : List ℕ) (more : List (List ℕ)) → drop i xs ≡ x ∷ more → take (i + 1) xs ≡ take i xs ++ x ∷ []
 take_one xs i x more e =
     take-add i 1 xs ∙ ap (λ (ys : List (List ℕ)). take i xs ++ take 1 ys) e
 
@@ -29,9 +29,6 @@ pub record ArePortsSoFar (text : List ℕ) (names : List (List ℕ)) (i : ℕ) (
   pub so_far : text ≡ flat_map port_text done ++ left
   pub named : port_names done ≡ take i names
   pub next : (ps : List Port) (rest : List ℕ) → ArePortLines text names ps rest → (qs : List Port) × (ps ≡ done ++ qs) × ArePortLines left (drop i names) qs rest
-
-pub ports_begin : (text : List ℕ) (names : List (List ℕ)) → ArePortsSoFar text names 0 [] text
-ports_begin text names = record { so_far = refl; named = refl; next = λ ps rest h. (ps, refl, h) }
 
 regroup : (a t n e rest : List ℕ) → (((a ++ t ++ []) ++ n) ++ e) ++ rest ≡ a ++ (t ++ (n ++ (e ++ rest)))
 regroup a t n e rest = simp (append-nil, append_assoc)
@@ -98,9 +95,6 @@ none_more [] e = refl
 none_more (q ∷ qs) e = absurd cc
 
 module _ (text left : List ℕ) (names : List (List ℕ)) (i : ℕ) (done : List Port) (h : ArePortsSoFar text names i done left) (all : length names ≤ i) where
-  pub ports_found : ArePortLines text names done left
-  ports_found = record { parts = h.so_far; named = h.named ∙ take_all i names all }
-
   pub ports_end : (ps : List Port) (rest : List ℕ) → ArePortLines text names ps rest → (done ≡ ps) × (left ≡ rest)
   ports_end ps rest whole =
       let further = h.next ps rest whole in

@@ -5,7 +5,7 @@ use Rattle.std.specs.Str.{bytes_eq}
 use Rattle.std.specs.Prelude.{not}
 use Rattle.std.proofs.lemmas.Slice.Eq.{bytes_eq-Decides}
 use Rattle.std.proofs.lemmas.List.Sums.{prefix_len-le-length}
-use Rattle.std.proofs.lemmas.List.{take_at, drop_at, take-append-drop}
+use Rattle.std.proofs.lemmas.List.{take_at, drop_at}
 use Rattle.std.proofs.lemmas.Bool.{cases_Bool, false≢true, not-false, not-true}
 use Rattle.hold_netlist.specs.Identifier.{is_word_byte, is_letter, is_word, is_simple}
 use Rattle.hold_netlist.specs.Names.{is_among}
@@ -21,15 +21,8 @@ pub and_right : (a b : Bool) → (a && b) ≡ true → b ≡ true
 and_right true b e = e
 and_right false b e = absurd cc
 
--- a text whose front is start is start and what is left
-pub front_is : (start text : List ℕ) → take (length start) text ≡ start → text ≡ start ++ drop (length start) text
-front_is start text e = sym (take-append-drop (length start) text) ∙ ap (λ (front : List ℕ). front ++ drop (length start) text) e
-
 pub front_of : (start text rest : List ℕ) → text ≡ start ++ rest → take (length start) text ≡ start
 front_of start text rest e = ap (λ (t : List ℕ). take (length start) t) e ∙ take_at start rest (length start) refl
-
-pub rest_of : (start text rest : List ℕ) → text ≡ start ++ rest → drop (length start) text ≡ rest
-rest_of start text rest e = ap (λ (t : List ℕ). drop (length start) t) e ∙ drop_at start rest (length start) refl
 
 -- the front of word bytes is as long as a word that another byte follows
 pub word_again : (word rest : List ℕ) → list_all is_word_byte word ≡ true → EndsWord rest → prefix_len is_word_byte (word ++ rest) ≡ length word

@@ -1,6 +1,6 @@
 -- The parts of a plain design's text, from its front to its end.
-use Rattle.std.proofs.Common.{◌≡◌, ℕ, zero, suc, ◌≤◌, Bool, true, false, List, [], ◌∷◌, ◌++◌, map, length, take, drop, get_or, Option, None, refl, sym, ap, subst, ◌∙◌, append_assoc, arith}
-use Rattle.std.specs.Prelude.{codes, flat_map, ◌||◌}
+use Rattle.std.proofs.Common.{◌≡◌, ℕ, zero, suc, ◌≤◌, true, List, [], ◌∷◌, ◌++◌, map, length, take, drop, get_or, Option, None, refl, sym, ap, subst, ◌∙◌, append_assoc, arith}
+use Rattle.std.specs.Prelude.{codes, flat_map}
 use Rattle.std.specs.List.{AllByRecursion, list_all}
 use Rattle.std.proofs.lemmas.List.{append-nil, append_cancel_left, take_at, drop_at, length-map}
 use Rattle.std.proofs.lemmas.Bool.{false≢true}
@@ -24,10 +24,6 @@ use Rattle.hold_cli.proofs.CanonicalLines.{wire_line_is, wire_is}
 
 -- ---- names
 
-or_true : (a b : Bool) (P : Type 0) → (a ≡ true → P) → (b ≡ true → P) → (a || b) ≡ true → P
-or_true true b P left right e = left refl
-or_true false b P left right e = right e
-
 word_byte_printable : (b : ℕ) → is_word_byte b ≡ true → (33 ≤ b) × (b ≤ 126)
 word_byte_printable b h = (grind (arith, nat_tests), grind (arith, nat_tests))
 
@@ -50,7 +46,7 @@ words_agree a b r q all_a all_b ended_r ended_q e = sym (word_is (a ++ r) a r al
 
 -- ---- what stands behind the wires
 
-pub rest_text : List Wire → List Inst → List ℕ
+unfoldable pub rest_text : List Wire → List Inst → List ℕ
 rest_text wires insts = flat_map (inst_line wires) insts ++ codes "endmodule\n"
 
 inst_regroup : (a k b n c j e rest : List ℕ) → (a ++ k ++ b ++ n ++ c ++ j ++ e) ++ rest ≡ a ++ (k ++ (b ++ (n ++ (c ++ (j ++ (e ++ rest))))))
@@ -159,7 +155,7 @@ front_of text d plain formed e = record {
   wires = port_wires d.ports d.wires plain.wires formed.ports;
 }
 
-all_scalar : (names : List (List ℕ)) (others : List Wire) → AllByRecursion IsSimple names → AllByRecursion IsPlainWire others → AllByRecursion IsPlainWire (map scalar names ++ others)
+pub all_scalar : (names : List (List ℕ)) (others : List Wire) → AllByRecursion IsSimple names → AllByRecursion IsPlainWire others → AllByRecursion IsPlainWire (map scalar names ++ others)
 all_scalar [] others simple plain = plain
 all_scalar (n ∷ ns) others simple plain = (record { name = simple.0; scalar = refl }, all_scalar ns others simple.1 plain)
 
@@ -225,14 +221,6 @@ module _ (text name : List ℕ) (names : List (List ℕ)) (ports : List Port) (o
 
 -- ---- what is read of a plain design's text
 
-pub rest_bare : (d : Design) → d.insts ≡ [] → rest_text d.wires d.insts ≡ codes "endmodule\n"
-unfolding rest_text
-rest_bare d bare = ap (λ (is : List Inst). flat_map (inst_line d.wires) is ++ codes "endmodule\n") bare
-
-pub rest_none : (wires : List Wire) → codes "endmodule\n" ≡ rest_text wires []
-unfolding rest_text
-rest_none wires = refl
-
 module _ (text : List ℕ) (d : Design) (h : IsPlainText text d) where
   front : HasFront text d
   front = front_of text d h.plain h.formed h.spelled
@@ -265,9 +253,6 @@ module _ (text : List ℕ) (d : Design) (h : IsPlainText text d) where
 
       pub same_all_wires : map scalar names ++ others ≡ d.wires
       same_all_wires = ap (λ (ns : List (List ℕ)). map scalar ns ++ others) same_head.1 ∙ ap (λ (ws : List Wire). map scalar (port_names d.ports) ++ ws) same_wires.0 ∙ sym front.wires
-
-      pub no_end : d.insts ≡ [] → (after_wires ≡ codes "endmodule\n" → ⊥) → ⊥
-      no_end bare none = none (same_rest ∙ rest_bare d bare)
 
       pub same_design : (wires : List Wire) (insts : List Inst) → wires ≡ map scalar names ++ others → insts ≡ d.insts → design name ports wires insts [] ≡ d
       same_design wires insts wires-are insts-are =

@@ -3,6 +3,9 @@ pub mod CanonicalItems
 pub mod CanonicalLines
 pub mod CanonicalPorts
 pub mod CanonicalWhole
+pub mod CanonicalNets
+pub mod CanonicalInsts
+pub mod CanonicalEnd
 pub mod CommandLemmas
 pub mod JobFormLemmas
 pub mod JobApart

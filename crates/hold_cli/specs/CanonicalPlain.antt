@@ -3,7 +3,6 @@
 -- IsPlain d: a design of scalar wires, with no assignment, in which every name is a simple identifier: of
 -- the module, the ports, the wires, the instances, the types and the connections. A connection may be
 -- empty or tied to a constant.
--- HasNoInstance d: nothing but ports and wires.
 -- IsPlainText text d: the text is the canonical text of the plain design d, whose parts fit together.
 -- scalar name: the scalar wire of that name.
 use Rattle.std.specs.Prelude.{◌≡◌, ℕ, List, [], None, IsTrue}
@@ -35,9 +34,6 @@ pub record IsPlain (d : Design) : Type 0 where
   pub wires : AllByRecursion IsPlainWire d.wires
   pub insts : AllByRecursion IsPlainInst d.insts
   pub assigns : d.assigns ≡ []
-
-abbrev pub HasNoInstance : Design → Type 0
-HasNoInstance d = d.insts ≡ []
 
 pub record IsPlainText (text : List ℕ) (d : Design) : Type 0 where
   pub plain : IsPlain d

@@ -13,7 +13,7 @@
 -- RefusesJob, RefusesNetlist: why that one file is refused. Refuses told name fault: the first refusal in the order of work: first the job's, then
 --   that of the netlist that the job names.
 -- IsFront told name job netlist: nothing is refused, and these are the job and the netlist.
-use Rattle.std.specs.Prelude.{◌≡◌, ◌⊎◌, ◌<◌, ◌≤◌, ℕ, List, length, Some, IsSome}
+use Rattle.std.specs.Prelude.{◌≡◌, ◌⊎◌, ◌<◌, ◌≤◌, ℕ, List, [], length, Some, IsSome}
 use Rattle.hold_files.specs.Told.{Told}
 use Rattle.hold_cli.specs.declared.job_form.Job.{Job}
 use Rattle.hold_cli.specs.declared.outcome.Fault.{Fault}
@@ -22,7 +22,7 @@ use Rattle.hold_cli.specs.JobForm.{IsJobText}
 use Rattle.hold_netlist.specs.Design.{Design}
 use Rattle.hold_netlist.specs.Valid.{IsValid}
 use Rattle.hold_netlist.specs.CanonicalText.{canonical_text}
-use Rattle.hold_cli.specs.CanonicalPlain.{IsPlain, HasNoInstance}
+use Rattle.hold_cli.specs.CanonicalPlain.{IsPlain}
 
 abbrev pub file_limit : ℕ
 file_limit = 67108864
@@ -30,7 +30,7 @@ file_limit = 67108864
 pub record IsServed (netlist : Design) : Type 0 where
   pub valid : IsValid netlist
   pub plain : IsPlain netlist
-  pub bare : HasNoInstance netlist
+  pub bare : netlist.insts ≡ []
 
 pub record HasText (told : Told) (file text : List ℕ) : Type 0 where
   pub content : told.content file ≡ Some text

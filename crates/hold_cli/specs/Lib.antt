@@ -1,6 +1,7 @@
+pub mod CanonicalPlain
 pub mod CanonicalLists
 pub mod CanonicalModule
-pub mod CanonicalPlain
+pub mod CanonicalInsts
 pub mod Outcome
 pub mod Command
 pub mod JobForm

@@ -1,4 +1,4 @@
-ghost use Rattle.std.specs.Prelude.{◌≡◌, ◌⊎◌, ℕ, List, Some, IfOk, IsErrOf};
+ghost use Rattle.std.specs.Prelude.{◌≡◌, ◌⊎◌, ◌↔◌, ℕ, List, [], Some, false, IsTrue, IfOk, IsErrOf};
 ghost use Rattle.hold_files.specs.Told.{Rose, OnlyReads};
 ghost use Rattle.hold_cli.specs.declared.outcome.Fault.{Fault as Refusal};
 ghost use Rattle.hold_cli.specs.declared.job_form.Job.{Job as JobData};
@@ -13,6 +13,7 @@ use crate::job_form::{self, Job};
 use crate::outcome::Fault;
 use hold_base::{Memory, Name};
 use hold_files::Files;
+use hold_netlist::Netlist;
 use std::alloc::Global;
 
 /// A job and its netlist, of which nothing is refused.
@@ -91,17 +92,36 @@ fn read_netlist<F: Files>(alloc: Global, files: &mut F, name: &Name) -> Result<V
     ensures stays { OnlyReads (F.told files.old) (F.told files.new) }
 {
     let text = read_input(alloc, files, name)?;
-    let found = canonical::read(alloc, text.as_slice())?;
+    let served = is_served(alloc, text.as_slice())?;
+    if served {
+        Ok(text)
+    } else {
+        let stopped = not_built(name)?;
+        Err(stopped)
+    }
+}
+
+/// Whether the text is the canonical one of a netlist of the form that is served today.
+fn is_served(alloc: Global, text: &[u8]) -> Result<bool, Memory>
+    ensures yes { IfOk result (λ b. IsTrue b
+        → (netlist : Design) × IsServed netlist × (text.now ≡ canonical_text netlist)) }
+    ensures no { IfOk result (λ b. b ≡ false
+        → (netlist : Design) → IsServed netlist → text.now ≡ canonical_text netlist → ⊥) }
+{
+    let found = canonical::read(alloc, text)?;
     match found {
         Some(netlist) => {
             netlist.know_valid();
-            Ok(text)
+            Ok(has_no_instance(&netlist))
         }
-        None => {
-            let stopped = not_built(name)?;
-            Err(stopped)
-        }
+        None => Ok(false),
     }
+}
+
+fn has_no_instance(netlist: &Netlist) -> bool
+    ensures { IsTrue result ↔ (netlist.now.insts ≡ []) }
+{
+    netlist.insts().is_empty()
 }
 
 /// The refusal of the file of this name, whose form isn't served.

@@ -12,8 +12,10 @@ use std::alloc::Global;
 
 /// The names of a list up to the bracket that closes it, in order, and what follows that line.
 fn names(alloc: Global, text: &[u8]) -> Result<Option<(Vec<Name>, &[u8])>, Memory>
-    ensures found { IfOk result (λ o. IfSome o (λ x. IsJoined spelled IsSimple text.now x.0.items x.1.now)) }
-    ensures only { (names : List (List ℕ)) (rest : List ℕ) → IsJoined spelled IsSimple text.now names rest
+    ensures found { IfOk result (λ o. IfSome o (λ x.
+        IsJoined spelled IsSimple text.now x.0.items x.1.now)) }
+    ensures only { (names : List (List ℕ)) (rest : List ℕ)
+        → IsJoined spelled IsSimple text.now names rest
         → IfOk result (λ o. IsSomeAnd o (λ x. (x.0.items ≡ names) × (x.1.now ≡ rest))) }
 {
     let mut names = Vec::new(alloc);
@@ -38,7 +40,8 @@ fn names(alloc: Global, text: &[u8]) -> Result<Option<(Vec<Name>, &[u8])>, Memor
 /// The module's line at the front: the module's name, the names of its ports and what follows the line.
 pub fn module_line(alloc: Global, text: &[u8]) -> Result<Option<(Name, Vec<Name>, &[u8])>, Memory>
     ensures found { IfOk result (λ o. IfSome o (λ x. IsModuleLine text.now x.0 x.1.items x.2.now)) }
-    ensures only { (name : List ℕ) (ports : List (List ℕ)) (rest : List ℕ) → IsModuleLine text.now name ports rest
+    ensures only { (name : List ℕ) (ports : List (List ℕ)) (rest : List ℕ)
+        → IsModuleLine text.now name ports rest
         → IfOk result (λ o. IsSomeAnd o (λ x. (x.0 ≡ name) × (x.1.items ≡ ports) × (x.2.now ≡ rest))) }
 {
     let Some((name, list)) = name_between(text, b"module ", b"(") else {

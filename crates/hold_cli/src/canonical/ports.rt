@@ -16,7 +16,8 @@ use std::alloc::Global;
 /// Which way the port of the line at the front leads, and what follows that word.
 fn direction(text: &[u8]) -> Option<(Direction, &[u8])>
     ensures found { IfSome result (λ x. text.now ≡ codes "  " ++ (direction_text x.0 ++ x.1.now)) }
-    ensures only { (d : directions.Direction) (rest : List ℕ) → text.now ≡ codes "  " ++ (direction_text d ++ rest)
+    ensures only { (d : directions.Direction) (rest : List ℕ)
+        → text.now ≡ codes "  " ++ (direction_text d ++ rest)
         → IsSomeAnd result (λ x. (x.0 ≡ d) × (x.1.now ≡ rest)) }
 {
     if let Some(rest) = after(text, b"  input ") {
@@ -30,8 +31,10 @@ fn direction(text: &[u8]) -> Option<(Direction, &[u8])>
 
 /// The line at the front that declares the port of this name, and what follows it.
 fn port_line<'a>(text: &'a [u8], name: &[u8]) -> Option<(Direction, &'a [u8])>
-    ensures found { IfSome result (λ x. text.now ≡ codes "  " ++ (direction_text x.0 ++ (name.now ++ (codes ";\n" ++ x.1.now)))) }
-    ensures only { (d : directions.Direction) (rest : List ℕ) → text.now ≡ codes "  " ++ (direction_text d ++ (name.now ++ (codes ";\n" ++ rest)))
+    ensures found { IfSome result (λ x.
+        text.now ≡ codes "  " ++ (direction_text x.0 ++ (name.now ++ (codes ";\n" ++ x.1.now)))) }
+    ensures only { (d : directions.Direction) (rest : List ℕ)
+        → text.now ≡ codes "  " ++ (direction_text d ++ (name.now ++ (codes ";\n" ++ rest)))
         → IsSomeAnd result (λ x. (x.0 ≡ d) × (x.1.now ≡ rest)) }
 {
     let Some((direction, rest)) = direction(text) else {
@@ -53,7 +56,8 @@ pub fn port_lines<'a>(
     text: &'a [u8],
 ) -> Result<Option<(Vec<Port>, &'a [u8])>, Memory>
     requires { AllByRecursion IsSimple names.now }
-    ensures found { IfOk result (λ o. IfSome o (λ x. ArePortLines text.now names.now x.0.items x.1.now)) }
+    ensures found { IfOk result (λ o. IfSome o (λ x.
+        ArePortLines text.now names.now x.0.items x.1.now)) }
     ensures only { (ps : List ports.Port) (rest : List ℕ) → ArePortLines text.now names.now ps rest
         → IfOk result (λ o. IsSomeAnd o (λ x. (x.0.items ≡ ps) × (x.1.now ≡ rest))) }
 {

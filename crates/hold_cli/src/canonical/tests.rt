@@ -1,4 +1,6 @@
 use super::read;
+use hold_base::NetNo;
+use hold_netlist::Source;
 
 #[test]
 fn empty_module(rt: HostRuntime) {
@@ -14,6 +16,19 @@ fn is_refused(rt: &HostRuntime, text: &[u8]) -> bool {
         Ok(found) => found.is_none(),
         Err(_) => false,
     }
+}
+
+#[test]
+fn registers_and_gate(rt: HostRuntime) {
+    let text =
+        b"module e(clk, y);\n  input clk;\n  output y;\n  wire a;\n  wire b;\n  DFF u1(.C(clk), .D(1'b0), .Q(a));\n  INV u2(.A(a), .Y(b));\n  DFF u3(.C(clk), .D(b), .Q(y));\nendmodule\n";
+    let found = read(rt.alloc(), text.as_slice()).expect(&rt, "memory");
+    let netlist = found.expect(&rt, "a netlist");
+    assert_eq!(rt; netlist.wires().len(), 4);
+    assert_eq!(rt; netlist.insts().len(), 3);
+    let pins = netlist.insts()[2].pins.as_slice();
+    assert_eq!(rt; pins.len(), 3);
+    assert!(rt; pins[1].source == Source::Net(NetNo(3)));
 }
 
 #[test]

@@ -12,7 +12,8 @@ use super::keyword::is_keyword;
 /// What follows a text that begins so; `None` exactly where it doesn't.
 pub fn after<'a>(text: &'a [u8], start: &[u8]) -> Option<&'a [u8]>
     ensures found { IfSome result (λ rest. text.now ≡ start.now ++ rest.now) }
-    ensures only { (rest : List ℕ) → text.now ≡ start.now ++ rest → IsSomeAnd result (λ r. r.now ≡ rest) }
+    ensures only { (rest : List ℕ) → text.now ≡ start.now ++ rest
+        → IsSomeAnd result (λ r. r.now ≡ rest) }
 {
     if text.len() < start.len() {
         return None;
@@ -82,7 +83,8 @@ pub fn name_between<'a>(
     requires { (rest : List ℕ) → EndsWord (behind.now ++ rest) }
     ensures found { IfSome result (λ x. text.now ≡ before.now ++ (x.0.now ++ (behind.now ++ x.1.now))) }
     ensures simple { IfSome result (λ x. IsSimple x.0.now) }
-    ensures only { (name rest : List ℕ) → IsSimple name → text.now ≡ before.now ++ (name ++ (behind.now ++ rest))
+    ensures only { (name rest : List ℕ) → IsSimple name
+        → text.now ≡ before.now ++ (name ++ (behind.now ++ rest))
         → IsSomeAnd result (λ x. (x.0.now ≡ name) × (x.1.now ≡ rest)) }
 {
     let Some(rest) = after(text, before) else {

@@ -14,7 +14,8 @@ use std::alloc::Global;
 /// The wires of the lines at the front that declare one, in order, and what follows the last such line.
 pub fn wire_lines(alloc: Global, text: &[u8]) -> Result<(Vec<Wire>, &[u8]), Memory>
     ensures found { IfOk result (λ x. IsItems wire_line IsPlainWire text.now x.0.items x.1.now) }
-    ensures only { (ws : List wires.Wire) (rest : List ℕ) → IsItems wire_line IsPlainWire text.now ws rest
+    ensures only { (ws : List wires.Wire) (rest : List ℕ)
+        → IsItems wire_line IsPlainWire text.now ws rest
         → IfOk result (λ x. (x.0.items ≡ ws) × (x.1.now ≡ rest)) }
 {
     let mut wires = Vec::new(alloc);
