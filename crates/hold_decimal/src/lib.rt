@@ -1,5 +1,5 @@
 //! The whole femtoseconds on both sides of a decimal number, as delay files write it: `-1.25e3` of some unit.
-//! The value is taken exactly, whatever the number of its digits; it is read in one pass, without memory.
+//! The value is taken exactly, whatever the number of its digits; it is read in time linear in its length, without memory.
 #![tactic(auto)]
 
 mod number;
