@@ -3,17 +3,15 @@
 use Rattle.std.proofs.Common.{◌≡◌, ℕ, zero, suc, ◌+◌, ◌-◌, ◌<◌, ◌≤◌, List, [], ◌∷◌, ◌++◌, length, get_or, drop, refl, sym, ap, ◌∙◌, add-zero, append_assoc, append-nil, arith}
 use Rattle.std.specs.Prelude.{Option, None, Some, option_map}
 use Rattle.std.proofs.lemmas.List.{at_drop_more, at_drop_all, drop-drop}
-use Rattle.hold_sdflex.specs.declared.front.Front.{Front}
-use Rattle.hold_sdflex.specs.declared.piece.Piece.{Piece}
-use Rattle.hold_sdflex.specs.Front.{front_of}
-use Rattle.hold_sdflex.specs.Pieces.{pieces_of, pieces_from}
+use Rattle.hold_sdflex.specs.Front.{Front, front_of}
+use Rattle.hold_sdflex.specs.Pieces.{Marked, pieces_of, pieces_from}
 
 -- these pieces, and then those
-abbrev pub before : List Piece → Option (List Piece) → Option (List Piece)
+abbrev pub before : List Marked → Option (List Marked) → Option (List Marked)
 before front None = None
 before front (Some rest) = Some (front ++ rest)
 
-pub before-map : (front more : List Piece) (o : Option (List Piece)) → before front (option_map (λ ps. more ++ ps) o) ≡ before (front ++ more) o
+pub before-map : (front more : List Marked) (o : Option (List Marked)) → before front (option_map (λ ps. more ++ ps) o) ≡ before (front ++ more) o
 before-map front more None = refl
 before-map front more (Some rest) = ap Some (sym (append_assoc front more rest))
 
@@ -27,15 +25,15 @@ pieces_from-skip (b ∷ bytes) (suc skip) at =
     pieces_from-skip bytes skip (at + 1) ∙ ap (pieces_from (drop skip bytes) 0) same
 
 module _ (text : List ℕ) (at d : ℕ) (within : at < length text) where
-  pub front_missing : (found : List Piece) → front_of (get_or text at d) (drop (at + 1) text) ≡ None → before found (pieces_from (drop at text) 0 at) ≡ None
+  pub front_missing : (found : List Marked) → front_of (get_or text at d) (drop (at + 1) text) ≡ None → before found (pieces_from (drop at text) 0 at) ≡ None
   front_missing found missing = rw (at_drop_more (λ bs. pieces_from bs 0 at) text at d within, missing) refl
 
-  pub front_found : (found : List Piece) (front : Front) → front_of (get_or text at d) (drop (at + 1) text) ≡ Some front → 0 < front.len → before found (pieces_from (drop at text) 0 at) ≡ before (found ++ pieces_of front.form at (at + front.len)) (pieces_from (drop (at + front.len) text) 0 (at + front.len))
+  pub front_found : (found : List Marked) (front : Front) → front_of (get_or text at d) (drop (at + 1) text) ≡ Some front → 0 < front.len → before found (pieces_from (drop at text) 0 at) ≡ before (found ++ pieces_of front.mark at (at + front.len)) (pieces_from (drop (at + front.len) text) 0 (at + front.len))
   front_found found front is not_empty =
       let place : at + 1 + (front.len - 1) ≡ at + front.len = omega arith in
       let rest : pieces_from (drop (at + 1) text) (front.len - 1) (at + 1) ≡ pieces_from (drop (at + front.len) text) 0 (at + front.len) =
       pieces_from-skip (drop (at + 1) text) (front.len - 1) (at + 1) ∙ rw (drop-drop (front.len - 1) (at + 1) text, place) refl in
-      rw (at_drop_more (λ bs. pieces_from bs 0 at) text at d within, is, rest) (before-map found (pieces_of front.form at (at + front.len)) _)
+      rw (at_drop_more (λ bs. pieces_from bs 0 at) text at d within, is, rest) (before-map found (pieces_of front.mark at (at + front.len)) _)
 
-pub all_found : (text : List ℕ) (at : ℕ) (found : List Piece) → length text ≤ at → before found (pieces_from (drop at text) 0 at) ≡ Some found
+pub all_found : (text : List ℕ) (at : ℕ) (found : List Marked) → length text ≤ at → before found (pieces_from (drop at text) 0 at) ≡ Some found
 all_found text at found past = rw (at_drop_all (λ bs. pieces_from bs 0 at) text at past) (ap Some (append-nil found))

@@ -1,57 +1,92 @@
 -- How the pieces of a text stand that is one whole group.
-use Rattle.std.proofs.Common.{◌≡◌, ℕ, zero, suc, ◌+◌, ◌-◌, ◌<◌, ◌≤◌, List, [], ◌∷◌, length, take, drop, refl, sym, ap, ◌∙◌, subst, inl, inr, arith}
+use Rattle.std.proofs.Common.{◌≡◌, ℕ, zero, suc, ◌+◌, ◌-◌, ◌<◌, ◌≤◌, List, [], ◌∷◌, length, map, take, drop, refl, sym, ap, ◌∙◌, subst, inl, inr, arith}
 use Rattle.std.specs.Prelude.{Option, None, Some, option_map, slice_get, Ok, Err}
 use Rattle.std.specs.Option.{option_map_or}
-use Rattle.std.proofs.lemmas.List.{drop-drop}
-use Rattle.std.proofs.lemmas.Option.{option_and_then_some, slice_get_within, slice_get-get_or}
+use Rattle.std.proofs.lemmas.List.{drop-drop, drop-map, take-map}
+use Rattle.std.proofs.lemmas.Option.{option_and_then_some, slice_get_within, slice_get-get_or, slice_get-map}
 use Rattle.std.proofs.lemmas.Bool.{cases_lt}
 use Rattle.hold_sdflex.specs.declared.piece.Form.{Form}
 use Rattle.hold_sdflex.specs.declared.piece.Form.TheVariants.{Open, Close, Colon, Text, Atom}
 use Rattle.hold_sdflex.specs.declared.piece.Piece.{Piece}
-use Rattle.hold_sdflex.specs.Pieces.{pieces_of_text}
-use Rattle.hold_sdflex.specs.Nesting.{inside, paired, IsBalanced}
+use Rattle.hold_sdflex.specs.Front.{Mark, opens, closes}
+use Rattle.hold_sdflex.specs.Pieces.{Marked, pieces_of_text}
+use Rattle.hold_sdflex.specs.Nesting.{inside, marks, paired, mark_in, depth_over}
+use Rattle.hold_sdflex.specs.Waiting.{shown}
 use Rattle.hold_sdflex.specs.Groups.{paired_pieces, after_group, stray, group_or_fault, group_of, form_at, IsGroup, AreOneGroup, AreInOrder}
 use Rattle.hold_sdflex.proofs.Options.{map_some}
 use Rattle.hold_sdflex.proofs.Rising.{AreRising, pieces_from-rising, rising_fit, rising-in_order}
-use Rattle.hold_sdflex.proofs.Partners.{inside-nested, inside-balanced, paired_parts, paired-again, closing_of}
+use Rattle.hold_sdflex.proofs.Partners.{inside-nested, inside-balanced, paired_shown, closing_of}
 
-form_at-drop : (ps : List Piece) (k i : ℕ) → form_at (drop k ps) i ≡ form_at ps (k + i)
-form_at-drop ps zero i = ap (form_at ps) (omega arith)
-form_at-drop [] (suc k) i = refl
-form_at-drop (p ∷ ps) (suc k) i = let place : suc (k + i) ≡ suc k + i = omega arith in form_at-drop ps k i ∙ ap (form_at (p ∷ ps)) place
+-- the marks of pieces
+abbrev marks_in : List Piece → List Mark
+marks_in ps = map (λ p. mark_in p.form) ps
+
+marks_shown : (ps : List Piece) → marks (shown ps) ≡ marks_in ps
+marks_shown [] = refl
+marks_shown (p ∷ ps) = ap (λ ms. mark_in p.form ∷ ms) (marks_shown ps)
+
+slice_get-drop : (ms : List Mark) (k i : ℕ) → slice_get (drop k ms) i ≡ slice_get ms (k + i)
+slice_get-drop ms zero i = ap (slice_get ms) (omega arith)
+slice_get-drop [] (suc k) i = refl
+slice_get-drop (m ∷ ms) (suc k) i = let place : suc (k + i) ≡ suc k + i = omega arith in slice_get-drop ms k i ∙ ap (slice_get (m ∷ ms)) place
+
+mark_at : (o : Option Piece) (form : Form) → option_map (λ p. p.form) o ≡ Some form → option_map (λ p. mark_in p.form) o ≡ Some (mark_in form)
+mark_at None form is = cc
+mark_at (Some p) form is = ap (option_map (λ f. mark_in f)) is
+
+close_in : (form : Form) → mark_in form ≡ closes → form ≡ Close
+close_in (Open c) is = cc
+close_in Close is = refl
+close_in Colon is = cc
+close_in Text is = cc
+close_in Atom is = cc
+
+close_at : (o : Option Piece) → option_map (λ p. mark_in p.form) o ≡ Some closes → option_map (λ p. p.form) o ≡ Some Close
+close_at None is = cc
+close_at (Some p) is = ap Some (close_in p.form (cc is))
 
 form_at_within : (ps : List Piece) (i : ℕ) (form : Form) → form_at ps i ≡ Some form → i < length ps
 form_at_within ps i form is = let found = map_some (λ (p : Piece). p.form) (slice_get ps i) form is in slice_get_within ps i found.0 found.1
 
--- pieces that are paired already
-module _ (ps : List Piece) (same : paired ps 0 ≡ Some ps) where
+-- paired pieces, where a later group's end is found by the marks
+module _ (was : List Marked) (ps : List Piece) (is_paired : paired was 0 ≡ Some ps) where
+  same_marks : marks was ≡ marks_in ps
+  same_marks = ap marks (sym (paired_shown was ps 0 is_paired)) ∙ marks_shown ps
+
+  closing_at : (i c : ℕ) → form_at ps i ≡ Some (Open c) → (n : ℕ) × (inside (drop (suc i) (marks_in ps)) 0 ≡ Some n) × (c ≡ 0 + i + 1 + n)
+  closing_at i c begins = rw same_marks at (closing_of was ps 0 i c is_paired begins)
+
   group_at : (i c : ℕ) → form_at ps i ≡ Some (Open c) → IsGroup ps i c
-  group_at i c opens =
-      let closing = closing_of ps ps 0 i c same opens in
+  group_at i c begins =
+      let closing = closing_at i c begins in
       let n = closing.0 in
-      let balanced = inside-balanced (drop (suc i) ps) 0 n closing.1 in
+      let balanced = inside-balanced (drop (suc i) (marks_in ps)) 0 n closing.1 in
       let place : suc i + n ≡ c = omega (arith, closing.2) in
       let first : suc i ≡ i + 1 = omega arith in
       let count : n ≡ c - (i + 1) = omega (arith, closing.2) in
-      let between : IsBalanced (take (c - (i + 1)) (drop (i + 1) ps)) =
-      subst (λ k. IsBalanced (take (c - (i + 1)) (drop k ps))) first (subst (λ k. IsBalanced (take k (drop (suc i) ps))) count balanced.0) in
+      let ends : slice_get (marks_in ps) c ≡ Some closes = ap (slice_get (marks_in ps)) (sym place) ∙ sym (slice_get-drop (marks_in ps) (suc i) n) ∙ balanced.1 in
+      let commute : take (c - (i + 1)) (drop (i + 1) (marks_in ps)) ≡ marks_in (take (c - (i + 1)) (drop (i + 1) ps)) =
+      ap (take (c - (i + 1))) (drop-map (λ p. mark_in p.form) (i + 1) ps) ∙ take-map (λ p. mark_in p.form) (c - (i + 1)) (drop (i + 1) ps) in
+      let between : depth_over (take (c - (i + 1)) (drop (i + 1) (marks_in ps))) 0 ≡ Some 0 =
+      subst (λ k. depth_over (take (c - (i + 1)) (drop k (marks_in ps))) 0 ≡ Some 0) first (subst (λ k. depth_over (take k (drop (suc i) (marks_in ps))) 0 ≡ Some 0) count balanced.0) in
       record {
         later = omega (arith, closing.2);
-        closes = ap (form_at ps) (sym place) ∙ sym (form_at-drop ps (suc i) n) ∙ balanced.1;
-        balanced = between;
+        closes = close_at (slice_get ps c) (sym (slice_get-map (λ p. mark_in p.form) ps c) ∙ ends);
+        balanced = subst (λ ms. depth_over ms 0 ≡ Some 0) commute between;
       }
 
   nested_at : (i c j d : ℕ) → form_at ps i ≡ Some (Open c) → form_at ps j ≡ Some (Open d) → i < j → j < c → d < c
   nested_at i c j d outer inner after before =
-      let first = closing_of ps ps 0 i c same outer in
-      let second = closing_of ps ps 0 j d same inner in
+      let first = closing_at i c outer in
+      let second = closing_at j d inner in
       let k = j - suc i in
       let place : suc i + k ≡ j = omega arith in
       let next : suc i + suc k ≡ suc j = omega arith in
-      let opens : form_at (drop (suc i) ps) k ≡ Some (Open d) = form_at-drop ps (suc i) k ∙ ap (form_at ps) place ∙ inner in
-      let rest : inside (drop (suc k) (drop (suc i) ps)) 0 ≡ Some second.0 = ap (λ qs. inside qs 0) (drop-drop (suc k) (suc i) ps ∙ ap (λ m. drop m ps) next) ∙ second.1 in
+      let begins : slice_get (drop (suc i) (marks_in ps)) k ≡ Some opens =
+      slice_get-drop (marks_in ps) (suc i) k ∙ ap (slice_get (marks_in ps)) place ∙ slice_get-map (λ p. mark_in p.form) ps j ∙ mark_at (slice_get ps j) (Open d) inner in
+      let rest : inside (drop (suc k) (drop (suc i) (marks_in ps))) 0 ≡ Some second.0 = ap (λ qs. inside qs 0) (drop-drop (suc k) (suc i) (marks_in ps) ∙ ap (λ m. drop m (marks_in ps)) next) ∙ second.1 in
       let within : k < first.0 = omega (arith, first.2) in
-      let less = inside-nested (drop (suc i) ps) 0 first.0 k d second.0 first.1 within opens rest in
+      let less = inside-nested (drop (suc i) (marks_in ps)) 0 first.0 k second.0 first.1 within begins rest in
       omega (arith, less, first.2, second.2)
 
 no_stray : (p : Piece) (ps : List Piece) (form : Form) → p.form ≡ form → slice_get (p ∷ ps) (after_group form) ≡ None → ((c : ℕ) → form ≡ Open c → c < length (p ∷ ps)) → form ≡ Open (length (p ∷ ps) - 1)
@@ -74,22 +109,15 @@ map_none f None is = refl
 map_none f (Some x) is = cc
 
 -- paired pieces without a stray one are one group
-one_group : (text : List ℕ) (p : Piece) (ps : List Piece) → paired_pieces text ≡ Some (p ∷ ps) → stray (p ∷ ps) ≡ None → AreOneGroup (p ∷ ps)
-one_group text p ps is none =
-    let same : paired (p ∷ ps) 0 ≡ Some (p ∷ ps) = option_and_then_some (λ qs. paired qs 0) (pieces_of_text text) (p ∷ ps) is (λ qs was found. (paired-again qs (p ∷ ps) 0 found).0) in
+one_group : (was : List Marked) (p : Piece) (ps : List Piece) → paired was 0 ≡ Some (p ∷ ps) → stray (p ∷ ps) ≡ None → AreOneGroup (p ∷ ps)
+one_group was p ps is none =
     record {
-      whole = ap Some (no_stray p ps p.form refl (map_none (λ q. q.from) (slice_get (p ∷ ps) (after_group p.form)) none) (λ c opens. form_at_within (p ∷ ps) c Close (group_at (p ∷ ps) same 0 c (ap Some opens)).closes));
-      groups = group_at (p ∷ ps) same;
-      nested = nested_at (p ∷ ps) same;
+      whole = ap Some (no_stray p ps p.form refl (map_none (λ q. q.from) (slice_get (p ∷ ps) (after_group p.form)) none) (λ c begins. form_at_within (p ∷ ps) c Close (group_at was (p ∷ ps) is 0 c (ap Some begins)).closes));
+      groups = group_at was (p ∷ ps) is;
+      nested = nested_at was (p ∷ ps) is;
     }
 
-paired-rising : (ps qs : List Piece) (place start end : ℕ) → paired ps place ≡ Some qs → AreRising ps start end → AreRising qs start end
-paired-rising [] qs place start end is rising = let e : [] ≡ qs = cc in subst (λ xs. AreRising xs start end) e rising
-paired-rising (p ∷ ps) qs place start end is rising =
-    let parts = paired_parts p ps qs place is in
-    subst (λ xs. AreRising xs start end) parts.2.whole (rising.0, rising.1, paired-rising ps parts.1 (place + 1) p.to end parts.2.others rising.2)
-
-text_rising : (text : List ℕ) (ps : List Piece) → pieces_of_text text ≡ Some ps → AreRising ps 0 (length text)
+text_rising : (text : List ℕ) (ps : List Marked) → pieces_of_text text ≡ Some ps → AreRising ps 0 (length text)
 text_rising text ps is =
     let whole = pieces_from-rising text 0 0 (omega arith) in
     let rising : AreRising ps (0 + 0) (0 + length text) = (rw is at whole) in
@@ -97,11 +125,11 @@ text_rising text ps is =
     rw end at rising
 
 -- there are no more pieces than bytes
-pub pieces_fit : (text : List ℕ) (ps : List Piece) → Some ps ≡ pieces_of_text text → length ps ≤ length text
+pub pieces_fit : (text : List ℕ) (ps : List Marked) → Some ps ≡ pieces_of_text text → length ps ≤ length text
 pieces_fit text ps is = let fit = rising_fit ps 0 (length text) (text_rising text ps (sym is)) in omega arith
 
 in_order : (text : List ℕ) (qs : List Piece) → paired_pieces text ≡ Some qs → AreInOrder qs (length text)
-in_order text qs is = option_and_then_some (λ ps. paired ps 0) (pieces_of_text text) qs is (λ ps was found. rising-in_order qs 0 (length text) (paired-rising ps qs 0 0 (length text) found (text_rising text ps was)))
+in_order text qs is = option_and_then_some (λ ps. paired ps 0) (pieces_of_text text) qs is (λ ps was found. rising-in_order qs 0 (length text) (rw (paired_shown ps qs 0 found) (text_rising text ps was)))
 
 -- what a group's pieces are
 parts_of : (end : ℕ) (o : Option (List Piece)) (ps : List Piece) → group_or_fault end o ≡ Ok ps → (p : Piece) × (rest : List Piece) × (p ∷ rest ≡ ps) × (o ≡ Some (p ∷ rest)) × (stray (p ∷ rest) ≡ None)
@@ -117,7 +145,7 @@ parts_of end (Some (p ∷ rest)) ps is = found (stray (p ∷ rest)) refl is
 pub one_group_of : (text : List ℕ) (ps : List Piece) → group_of text ≡ Ok ps → AreOneGroup ps
 one_group_of text ps is =
     let parts = parts_of (length text) (paired_pieces text) ps is in
-    subst AreOneGroup parts.2 (one_group text parts.0 parts.1 parts.3 parts.4)
+    subst AreOneGroup parts.2 (option_and_then_some (λ ps. paired ps 0) (pieces_of_text text) (parts.0 ∷ parts.1) parts.3 (λ was is found. one_group was parts.0 parts.1 found parts.4))
 
 pub in_order_of : (text : List ℕ) (ps : List Piece) → group_of text ≡ Ok ps → AreInOrder ps (length text)
 in_order_of text ps is =

@@ -3,10 +3,12 @@ use Rattle.std.proofs.Common.{◌≡◌, ℕ, zero, suc, ◌+◌, ◌<◌, ◌�
 use Rattle.std.specs.Prelude.{Option, None, Some, option_map, option_and_then, slice_get}
 use Rattle.std.proofs.lemmas.List.{at_drop_more, reverse-append, length-set, take-set, take-take, drop-set, get_or-take}
 use Rattle.hold_sdflex.specs.declared.piece.Form.{Form}
-use Rattle.hold_sdflex.specs.declared.piece.Form.TheVariants.{Open, Close, Colon, Text, Atom}
+use Rattle.hold_sdflex.specs.declared.piece.Form.TheVariants.{Open}
 use Rattle.hold_sdflex.specs.declared.piece.Piece.{Piece}
-use Rattle.hold_sdflex.specs.Nesting.{inside, paired_form, paired}
-use Rattle.hold_sdflex.specs.Waiting.{AreWaiting}
+use Rattle.hold_sdflex.specs.Front.{Mark, opens, closes, colon, string, atom}
+use Rattle.hold_sdflex.specs.Pieces.{Marked}
+use Rattle.hold_sdflex.specs.Nesting.{inside, form_of, marks, paired, mark_in}
+use Rattle.hold_sdflex.specs.Waiting.{shown_piece, shown, AreWaiting}
 
 -- the number after another, counted from the place before
 counted : (place : ℕ) (o : Option ℕ) → option_map (λ n. place + n) (option_map suc o) ≡ option_map (λ n. place + 1 + n) o
@@ -14,27 +16,27 @@ counted place None = refl
 counted place (Some n) = ap Some (omega arith)
 
 -- a piece that is no parenthesis
-module _ {closings : List ℕ} {after : List Piece} {place : ℕ} (waiting : AreWaiting closings after (place + 1)) (p : Piece) where
-  pub waiting-colon : p.form ≡ Colon → AreWaiting closings (p ∷ after) place
-  waiting-colon is = record { each = λ depth. rw is (counted place (inside after depth) ∙ waiting.each depth) }
+module _ {closings : List ℕ} {after : List Mark} {place : ℕ} (waiting : AreWaiting closings after (place + 1)) where
+  pub waiting-colon : AreWaiting closings (colon ∷ after) place
+  waiting-colon = record { each = λ depth. counted place (inside after depth) ∙ waiting.each depth }
 
-  pub waiting-text : p.form ≡ Text → AreWaiting closings (p ∷ after) place
-  waiting-text is = record { each = λ depth. rw is (counted place (inside after depth) ∙ waiting.each depth) }
+  pub waiting-string : AreWaiting closings (string ∷ after) place
+  waiting-string = record { each = λ depth. counted place (inside after depth) ∙ waiting.each depth }
 
-  pub waiting-atom : p.form ≡ Atom → AreWaiting closings (p ∷ after) place
-  waiting-atom is = record { each = λ depth. rw is (counted place (inside after depth) ∙ waiting.each depth) }
+  pub waiting-atom : AreWaiting closings (atom ∷ after) place
+  waiting-atom = record { each = λ depth. counted place (inside after depth) ∙ waiting.each depth }
 
-  pub waiting-close : p.form ≡ Close → AreWaiting (closings ++ place ∷ []) (p ∷ after) place
-  waiting-close is = record { each = each }
+  pub waiting-close : AreWaiting (closings ++ place ∷ []) (closes ∷ after) place
+  waiting-close = record { each = each }
     where
-      each : (depth : ℕ) → option_map (λ n. place + n) (inside (p ∷ after) depth) ≡ slice_get (reverse (closings ++ place ∷ [])) depth
-      each zero = rw (is, reverse-append) (ap Some (add-zero place))
-      each (suc depth) = rw (is, reverse-append) (counted place (inside after depth) ∙ waiting.each depth)
+      each : (depth : ℕ) → option_map (λ n. place + n) (inside (closes ∷ after) depth) ≡ slice_get (reverse (closings ++ place ∷ [])) depth
+      each zero = rw reverse-append (ap Some (add-zero place))
+      each (suc depth) = rw reverse-append (counted place (inside after depth) ∙ waiting.each depth)
 
 -- an opening parenthesis takes the closing that waited last
-pub waiting-open : (closings : List ℕ) (close : ℕ) (after : List Piece) (place : ℕ) → AreWaiting (closings ++ close ∷ []) after (place + 1) → (p : Piece) (own : ℕ) → p.form ≡ Open own → AreWaiting closings (p ∷ after) place
-waiting-open closings close after place waiting p own is = record {
-  each = λ depth. rw is (counted place (inside after (suc depth)) ∙ waiting.each (suc depth) ∙ rw reverse-append refl);
+pub waiting-open : (closings : List ℕ) (close : ℕ) (after : List Mark) (place : ℕ) → AreWaiting (closings ++ close ∷ []) after (place + 1) → AreWaiting closings (opens ∷ after) place
+waiting-open closings close after place waiting = record {
+  each = λ depth. counted place (inside after (suc depth)) ∙ waiting.each (suc depth) ∙ rw reverse-append refl;
 }
 
 -- the form that has the place of its closing
@@ -42,52 +44,59 @@ formed : (place : ℕ) (o : Option ℕ) → option_map (λ n. Open (place + 1 + 
 formed place None = refl
 formed place (Some n) = refl
 
-pub open_form : (closings : List ℕ) (close : ℕ) (after : List Piece) (place : ℕ) → AreWaiting (closings ++ close ∷ []) after (place + 1) → (own : ℕ) → Some (Open close) ≡ paired_form (Open own) place after
-open_form closings close after place waiting own =
+pub open_form : (closings : List ℕ) (close : ℕ) (after : List Mark) (place : ℕ) → AreWaiting (closings ++ close ∷ []) after (place + 1) → Some (Open close) ≡ form_of opens place after
+open_form closings close after place waiting =
     let first : option_map (λ n. place + 1 + n) (inside after 0) ≡ Some close = waiting.each 0 ∙ rw reverse-append refl in
     sym (formed place (inside after 0) ∙ ap (option_map (λ close. Open close)) first)
 
-pub open_has_no_form : (after : List Piece) (place : ℕ) → AreWaiting [] after (place + 1) → (own : ℕ) → None ≡ paired_form (Open own) place after
-open_has_no_form after place waiting own =
+pub open_has_no_form : (after : List Mark) (place : ℕ) → AreWaiting [] after (place + 1) → None ≡ form_of opens place after
+open_has_no_form after place waiting =
     sym (formed place (inside after 0) ∙ ap (option_map (λ close. Open close)) (waiting.each 0))
 
 pub nothing_waits : (place : ℕ) → AreWaiting [] [] place
 nothing_waits place = record { each = λ depth. refl }
 
+-- the marks of pieces, and these paired
+abbrev pub seen : List Piece → List Mark
+seen ps = marks (shown ps)
+
+abbrev pub paired_shown : List Piece → ℕ → Option (List Piece)
+paired_shown ps place = paired (shown ps) place
+
 -- one piece more is paired
-pub paired_front : (ps rest : List Piece) (i : ℕ) (d p : Piece) (form : Form) → i < length ps → get_or ps i d ≡ p → Some form ≡ paired_form p.form i (drop (i + 1) ps) → paired (drop (i + 1) ps) (i + 1) ≡ Some rest → paired (drop i ps) i ≡ Some (record p { form = form } ∷ rest)
-paired_front ps rest i d p form within here is found = rw (at_drop_more (λ qs. paired qs i) ps i d within, here, ← is, found) refl
+pub paired_front : (ps rest : List Piece) (i : ℕ) (d p : Piece) (form : Form) → i < length ps → get_or ps i d ≡ p → Some form ≡ form_of (mark_in p.form) i (seen (drop (i + 1) ps)) → paired_shown (drop (i + 1) ps) (i + 1) ≡ Some rest → paired_shown (drop i ps) i ≡ Some (record p { form = form } ∷ rest)
+paired_front ps rest i d p form within here is found = rw (at_drop_more (λ qs. paired_shown qs i) ps i d within, here, ← is, found) refl
 
 -- a piece without a partner, and those after it
-pub unpaired_front : (ps : List Piece) (i : ℕ) (d p : Piece) → i < length ps → get_or ps i d ≡ p → None ≡ paired_form p.form i (drop (i + 1) ps) → paired (drop i ps) i ≡ None
-unpaired_front ps i d p within here is = rw (at_drop_more (λ qs. paired qs i) ps i d within, here, ← is) refl
+pub unpaired_front : (ps : List Piece) (i : ℕ) (d p : Piece) → i < length ps → get_or ps i d ≡ p → None ≡ form_of (mark_in p.form) i (seen (drop (i + 1) ps)) → paired_shown (drop i ps) i ≡ None
+unpaired_front ps i d p within here is = rw (at_drop_more (λ qs. paired_shown qs i) ps i d within, here, ← is) refl
 
 -- where the end of a list has no pairs, the list has none
-no_rest : (p : Piece) (form : Option Form) → option_and_then (λ f. option_map (λ rest. record p { form = f } ∷ rest) None) form ≡ None
+no_rest : (p : Marked) (form : Option Form) → option_and_then {U = List Piece} (λ f. option_map (λ rest. record { form = f; from = p.from; to = p.to } ∷ rest) None) form ≡ None
 no_rest p None = refl
 no_rest p (Some form) = refl
 
-pub unpaired_end : (ps : List Piece) (i at : ℕ) → paired (drop i ps) (at + i) ≡ None → paired ps at ≡ None
-unpaired_end ps zero at none = ap (paired ps) (sym (add-zero at)) ∙ none
+pub unpaired_end : (ps : List Piece) (i at : ℕ) → paired_shown (drop i ps) (at + i) ≡ None → paired_shown ps at ≡ None
+unpaired_end ps zero at none = ap (paired_shown ps) (sym (add-zero at)) ∙ none
 unpaired_end [] (suc i) at none = none
 unpaired_end (p ∷ ps) (suc i) at none =
     let place : at + suc i ≡ at + 1 + i = omega arith in
-    let rest : paired ps (at + 1) ≡ None = unpaired_end ps i (at + 1) (rw place at none) in
-    rw rest (no_rest p (paired_form p.form at ps))
+    let rest : paired_shown ps (at + 1) ≡ None = unpaired_end ps i (at + 1) (rw place at none) in
+    rw rest (no_rest (shown_piece p) (form_of (mark_in p.form) at (seen ps)))
 
 -- of a list the pieces from this place on are paired in another, and those before it stand there as they are
 pub record ArePairedFrom (all now : List Piece) (closings : List ℕ) (place : ℕ) : Type 0 where
   pub within : place ≤ length all
   pub length_stays : length now ≡ length all
   pub before : take place now ≡ take place all
-  pub after : paired (drop place all) place ≡ Some (drop place now)
-  pub waiting : AreWaiting closings (drop place all) place
+  pub after : paired_shown (drop place all) place ≡ Some (drop place now)
+  pub waiting : AreWaiting closings (seen (drop place all)) place
 
 module _ (all now : List Piece) (closings : List ℕ) (i : ℕ) (d : Piece) (from : ArePairedFrom all now closings (i + 1)) where
   same_here : get_or now i d ≡ get_or all i d
   same_here = sym (get_or-take (i + 1) now i d (omega arith)) ∙ ap (λ ps. get_or ps i d) from.before ∙ get_or-take (i + 1) all i d (omega arith)
 
-  pub paired_one : (form : Form) (left : List ℕ) → Some form ≡ paired_form (get_or now i d).form i (drop (i + 1) all) → AreWaiting left (get_or now i d ∷ drop (i + 1) all) i → ArePairedFrom all (set now i (record (get_or now i d) { form = form })) left i
+  pub paired_one : (form : Form) (left : List ℕ) → Some form ≡ form_of (mark_in (get_or now i d).form) i (seen (drop (i + 1) all)) → AreWaiting left (mark_in (get_or now i d).form ∷ seen (drop (i + 1) all)) i → ArePairedFrom all (set now i (record (get_or now i d) { form = form })) left i
   paired_one form left is waits =
       let in_all : i < length all = omega (arith, from.within) in
       let in_now : i < length now = omega (arith, from.length_stays) in
@@ -96,10 +105,10 @@ module _ (all now : List Piece) (closings : List ℕ) (i : ℕ) (d : Piece) (fro
         length_stays = length-set now i _ ∙ from.length_stays;
         before = take-set now i _ ∙ sym (take-take i (i + 1) now (omega arith)) ∙ ap (take i) from.before ∙ take-take i (i + 1) all (omega arith);
         after = paired_front all (drop (i + 1) now) i d (get_or now i d) form in_all (sym same_here) is from.after ∙ ap Some (sym (drop-set now i _ in_now));
-        waiting = rw (at_drop_more (λ ps. ps) all i d in_all, ← same_here) waits;
+        waiting = rw (at_drop_more seen all i d in_all, ← same_here) waits;
       }
 
-  pub none_paired : None ≡ paired_form (get_or now i d).form i (drop (i + 1) all) → paired all 0 ≡ None
+  pub none_paired : None ≡ form_of (mark_in (get_or now i d).form) i (seen (drop (i + 1) all)) → paired_shown all 0 ≡ None
   none_paired is =
       let in_all : i < length all = omega (arith, from.within) in
       let zero_add : 0 + i ≡ i = omega arith in

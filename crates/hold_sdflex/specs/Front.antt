@@ -1,19 +1,29 @@
 -- What stands at the front of a text, by cases on its first bytes.
 --
+-- mark: what a piece is by its first byte: an opening or a closing parenthesis, a colon, a string, which a
+--     quote begins, or else an atom.
 -- white space: a space, a tab, a newline, a carriage return or a form feed.
 -- end of an atom: white space, a parenthesis, a colon or a quote, where no backslash takes it. A comment's
 --     sign ends no atom, so `a//b` is one, and a comment opens only where a piece could begin.
--- rest of a line: the bytes before the next newline; all of them where there is no newline.
--- rest of a block comment: the bytes up to and with the first `*/`; none where there is no `*/`.
--- rest of an atom: the bytes before its end, where a backslash takes the next byte, whatever that is; none
---     where a backslash is the last byte of the text.
--- front: the form of the first piece and its length in bytes; no form where white space or a comment
---     stands there instead. None where a string, a block comment or a backslash that stands there has no
---     end. An opening parenthesis doesn't know its closing one yet, and 0 stands in.
-use Rattle.std.specs.Prelude.{ℕ, suc, ◌+◌, Bool, true, false, ◌==◌, ◌||◌, ◌&&◌, List, [], ◌∷◌, length, Option, None, Some, option_map, unwrap_or, position, if◌then◌else◌}
-use Rattle.hold_sdflex.specs.declared.front.Front.{Front}
-use Rattle.hold_sdflex.specs.declared.piece.Form.{Form}
-use Rattle.hold_sdflex.specs.declared.piece.Form.TheVariants.{Open, Close, Colon, Text, Atom}
+-- length of the rest of a line: the bytes before the next newline; all of them where there is no newline.
+-- length of the rest of a block comment: the bytes up to and with the first `*/`; none where there is no `*/`.
+-- length of an atom: the bytes before its end, where a backslash takes the byte after it, whatever that is;
+--     none where a backslash is the last byte of the text.
+-- front: the mark of the first piece and its length in bytes; no mark where white space or a comment stands
+--     there instead. White space counts byte by byte, a line comment up to its newline. None where a string,
+--     a block comment or a backslash that stands there has no end.
+use Rattle.std.specs.Prelude.{ℕ, suc, ◌+◌, Bool, false, ◌==◌, ◌||◌, ◌&&◌, List, [], ◌∷◌, length, drop, Option, None, Some, option_map, unwrap_or, position, if◌then◌else◌}
+
+pub data Mark : Type 0 where
+  opens : Mark
+  closes : Mark
+  colon : Mark
+  string : Mark
+  atom : Mark
+
+pub record Front : Type 0 where
+  pub mark : Option Mark
+  pub len : ℕ
 
 abbrev pub newline : ℕ
 newline = 10
@@ -33,8 +43,8 @@ star = 42
 abbrev pub slash : ℕ
 slash = 47
 
-abbrev pub colon : ℕ
-colon = 58
+abbrev pub colon_sign : ℕ
+colon_sign = 58
 
 abbrev pub backslash : ℕ
 backslash = 92
@@ -45,54 +55,54 @@ is_white b = b == 32 || b == 9 || b == newline || b == 13 || b == 12
 
 -- the end of an atom
 abbrev pub ends_atom : ℕ → Bool
-ends_atom b = is_white b || b == opening || b == closing || b == colon || b == quote
+ends_atom b = is_white b || b == opening || b == closing || b == colon_sign || b == quote
 
--- how many bytes the rest of a line has
+-- the length of the rest of a line
 abbrev pub line_rest : List ℕ → ℕ
 line_rest bytes = unwrap_or (position (λ b. b == newline) bytes) (length bytes)
 
--- how many bytes the rest of a block comment has
+-- the length of the rest of a block comment
 abbrev pub block_rest : List ℕ → Option ℕ
 block_rest [] = None
 block_rest (a ∷ []) = None
 block_rest (a ∷ b ∷ bytes) =
     if a == star && b == slash then Some 2 else option_map suc (block_rest (b ∷ bytes))
 
--- how many bytes the rest of an atom has, and whether a backslash takes the first of them
-abbrev pub atom_rest : Bool → List ℕ → Option ℕ
-atom_rest false [] = Some 0
-atom_rest true [] = None
-atom_rest true (b ∷ bytes) = option_map suc (atom_rest false bytes)
-atom_rest false (b ∷ bytes) =
-    if ends_atom b then Some 0 else option_map suc (atom_rest (b == backslash) bytes)
+-- the length of an atom
+abbrev pub atom_length : List ℕ → Option ℕ
+atom_length [] = Some 0
+atom_length (b ∷ []) = if ends_atom b then Some 0 else if b == backslash then None else Some 1
+atom_length (b ∷ c ∷ bytes) =
+    if ends_atom b then Some 0
+    else if b == backslash then option_map (λ n. n + 2) (atom_length bytes)
+    else option_map suc (atom_length (c ∷ bytes))
 
--- white space or a comment of that length
-abbrev pub gap : ℕ → Front
-gap len = record { form = None; len = len }
+-- the mark of a piece that begins with this byte
+abbrev pub mark_of : ℕ → Mark
+mark_of b =
+    if b == opening then opens
+    else if b == closing then closes
+    else if b == colon_sign then colon
+    else if b == quote then string
+    else atom
 
--- a piece of that form and length
-abbrev pub piece : Form → ℕ → Front
-piece form len = record { form = Some form; len = len }
+-- the length of a piece of this mark at the front of these bytes
+abbrev pub piece_length : Mark → List ℕ → Option ℕ
+piece_length opens bytes = Some 1
+piece_length closes bytes = Some 1
+piece_length colon bytes = Some 1
+piece_length string bytes = option_map (λ n. n + 2) (position (λ b. b == quote) (drop 1 bytes))
+piece_length atom bytes = atom_length bytes
 
--- an atom, of which the first byte is read
-abbrev pub atom_after : Bool → List ℕ → Option Front
-atom_after taken rest = option_map (λ n. piece Atom (n + 1)) (atom_rest taken rest)
-
--- what a slash begins, of which the bytes after it are these
-abbrev pub after_slash : List ℕ → Option Front
-after_slash [] = atom_after false []
-after_slash (b ∷ rest) =
-    if b == slash then Some (gap (line_rest rest + 2))
-    else if b == star then option_map (λ n. gap (n + 2)) (block_rest rest)
-    else atom_after false (b ∷ rest)
+-- the bytes begin with this one
+abbrev pub begins_with : ℕ → List ℕ → Bool
+begins_with b [] = false
+begins_with b (first ∷ bytes) = first == b
 
 -- the front of a text of a first byte and the rest
 abbrev pub front_of : ℕ → List ℕ → Option Front
 front_of b rest =
-    if is_white b then Some (gap 1)
-    else if b == opening then Some (piece (Open 0) 1)
-    else if b == closing then Some (piece Close 1)
-    else if b == colon then Some (piece Colon 1)
-    else if b == quote then option_map (λ n. piece Text (n + 2)) (position (λ c. c == quote) rest)
-    else if b == slash then after_slash rest
-    else atom_after (b == backslash) rest
+    if is_white b then Some (record { mark = None; len = 1 })
+    else if b == slash && begins_with slash rest then Some (record { mark = None; len = line_rest (drop 1 rest) + 2 })
+    else if b == slash && begins_with star rest then option_map (λ n. record { mark = None; len = n + 2 }) (block_rest (drop 1 rest))
+    else option_map (λ n. record { mark = Some (mark_of b); len = n }) (piece_length (mark_of b) (b ∷ rest))

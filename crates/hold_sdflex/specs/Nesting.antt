@@ -1,50 +1,63 @@
 -- How the pieces of a text nest.
 --
--- depth after a piece: one more after an opening parenthesis, one less after a closing one, else the same;
+-- depth after a mark: one more after an opening parenthesis, one less after a closing one, else the same;
 --     none where a closing one stands at depth 0, since it closes what was opened before.
--- pieces inside a group: those after its opening parenthesis up to the closing one that stands where no
+-- marks inside a group: those after its opening parenthesis up to the closing one that stands where no
 --     group within is open; none where the list ends before.
--- paired: each opening parenthesis has the place of its closing one in the list; none where one has none. A
---     closing parenthesis that closes nothing stays as it is.
+-- paired: each piece has its form, and each opening parenthesis the place of its closing one in the list; none
+--     where one has none. A closing parenthesis that closes nothing stays as it is.
 -- balanced: each parenthesis in the list has its partner in the list. The empty list is balanced.
-use Rattle.std.specs.Prelude.{◌≡◌, ℕ, zero, suc, ◌+◌, List, [], ◌∷◌, Option, None, Some, option_map, option_and_then}
+use Rattle.std.specs.Prelude.{◌≡◌, ℕ, zero, suc, ◌+◌, List, [], ◌∷◌, map, Option, None, Some, option_map, option_and_then}
 use Rattle.std.specs.Option.{option_map_or}
 use Rattle.hold_sdflex.specs.declared.piece.Form.{Form}
 use Rattle.hold_sdflex.specs.declared.piece.Form.TheVariants.{Open, Close, Colon, Text, Atom}
 use Rattle.hold_sdflex.specs.declared.piece.Piece.{Piece}
+use Rattle.hold_sdflex.specs.Front.{Mark, opens, closes, colon, string, atom}
+use Rattle.hold_sdflex.specs.Pieces.{Marked}
 
--- the depth after a piece of this form
-abbrev pub depth_after : Form → ℕ → Option ℕ
-depth_after (Open close) depth = Some (suc depth)
-depth_after Close zero = None
-depth_after Close (suc depth) = Some depth
-depth_after Colon depth = Some depth
-depth_after Text depth = Some depth
-depth_after Atom depth = Some depth
+-- the depth after a mark
+abbrev pub depth_after : Mark → ℕ → Option ℕ
+depth_after opens depth = Some (suc depth)
+depth_after closes zero = None
+depth_after closes (suc depth) = Some depth
+depth_after colon depth = Some depth
+depth_after string depth = Some depth
+depth_after atom depth = Some depth
 
--- how many pieces of the list are inside a group of which so much is read that `depth` groups within are open
-abbrev pub inside : List Piece → ℕ → Option ℕ
+-- how many marks of the list are inside a group of which so much is read that `depth` groups within are open
+abbrev pub inside : List Mark → ℕ → Option ℕ
 inside [] depth = None
-inside (p ∷ ps) depth = option_map_or (λ d. option_map suc (inside ps d)) (depth_after p.form depth) (Some 0)
+inside (m ∷ ms) depth = option_map_or (λ d. option_map suc (inside ms d)) (depth_after m depth) (Some 0)
 
--- the paired form of the piece at this place of the list, where these pieces follow it
-abbrev pub paired_form : Form → ℕ → List Piece → Option Form
-paired_form (Open close) place after = option_map (λ n. Open (place + 1 + n)) (inside after 0)
-paired_form Close place after = Some Close
-paired_form Colon place after = Some Colon
-paired_form Text place after = Some Text
-paired_form Atom place after = Some Atom
+-- the form of the piece at this place of the list, where these marks follow it
+abbrev pub form_of : Mark → ℕ → List Mark → Option Form
+form_of opens place after = option_map (λ n. Open (place + 1 + n)) (inside after 0)
+form_of closes place after = Some Close
+form_of colon place after = Some Colon
+form_of string place after = Some Text
+form_of atom place after = Some Atom
+
+abbrev pub marks : List Marked → List Mark
+marks ps = map (λ p. p.mark) ps
 
 -- the pieces from this place of the list on, paired
-abbrev pub paired : List Piece → ℕ → Option (List Piece)
+abbrev pub paired : List Marked → ℕ → Option (List Piece)
 paired [] place = Some []
 paired (p ∷ ps) place =
-    option_and_then (λ form. option_map (λ rest. record p { form = form } ∷ rest) (paired ps (place + 1))) (paired_form p.form place ps)
+    option_and_then (λ form. option_map (λ rest. record { form = form; from = p.from; to = p.to } ∷ rest) (paired ps (place + 1))) (form_of p.mark place (marks ps))
 
--- the depth after all of the pieces
-abbrev pub depth_over : List Piece → ℕ → Option ℕ
+-- the mark of a form
+abbrev pub mark_in : Form → Mark
+mark_in (Open close) = opens
+mark_in Close = closes
+mark_in Colon = colon
+mark_in Text = string
+mark_in Atom = atom
+
+-- the depth after all of the marks
+abbrev pub depth_over : List Mark → ℕ → Option ℕ
 depth_over [] depth = Some depth
-depth_over (p ∷ ps) depth = option_and_then (λ d. depth_over ps d) (depth_after p.form depth)
+depth_over (m ∷ ms) depth = option_and_then (λ d. depth_over ms d) (depth_after m depth)
 
 abbrev pub IsBalanced : List Piece → Type 0
-IsBalanced ps = depth_over ps 0 ≡ Some 0
+IsBalanced ps = depth_over (map (λ p. mark_in p.form) ps) 0 ≡ Some 0

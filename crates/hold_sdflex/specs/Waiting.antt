@@ -1,12 +1,34 @@
--- What a walk from the last piece to the first keeps of the pieces behind it.
+-- What the walks over a text and over its pieces keep, and what the program's own records show.
 --
+-- shown: the front or the marked piece that a record of the program stands for. A front's form has the mark
+--     that it begins with, and a place that an opening parenthesis has before groups are paired counts for
+--     nothing.
+-- length left of an atom: that of the bytes after a first one, where a backslash took the next byte or not.
 -- waiting closings: the places of the closing parentheses whose opening ones stand before these pieces; the
 --     one that the next opening parenthesis takes is the last.
-use Rattle.std.specs.Prelude.{◌≡◌, ℕ, ◌+◌, List, option_map, reverse, slice_get}
+use Rattle.std.specs.Prelude.{◌≡◌, ℕ, suc, ◌+◌, Bool, true, false, List, [], ◌∷◌, map, Option, None, option_map, reverse, slice_get}
+use Rattle.hold_sdflex.specs.declared.front.Front.{Front as FrontRead}
 use Rattle.hold_sdflex.specs.declared.piece.Piece.{Piece}
-use Rattle.hold_sdflex.specs.Nesting.{inside}
+use Rattle.hold_sdflex.specs.Front.{Front, Mark, atom_length}
+use Rattle.hold_sdflex.specs.Pieces.{Marked}
+use Rattle.hold_sdflex.specs.Nesting.{inside, mark_in}
+
+abbrev pub shown_front : FrontRead → Front
+shown_front front = record { mark = option_map (λ form. mark_in form) front.form; len = front.len }
+
+abbrev pub shown_piece : Piece → Marked
+shown_piece p = record { mark = mark_in p.form; from = p.from; to = p.to }
+
+abbrev pub shown : List Piece → List Marked
+shown ps = map shown_piece ps
+
+-- the length left of an atom
+abbrev pub atom_left : Bool → List ℕ → Option ℕ
+atom_left true [] = None
+atom_left true (b ∷ bytes) = option_map suc (atom_length bytes)
+atom_left false bytes = atom_length bytes
 
 -- the closings that wait in the pieces from this place of the list on: for each number of groups within that are
 -- open, the closing parenthesis that stands there
-pub record AreWaiting (closings : List ℕ) (ps : List Piece) (place : ℕ) : Type 0 where
-  pub each : (depth : ℕ) → option_map (λ n. place + n) (inside ps depth) ≡ slice_get (reverse closings) depth
+pub record AreWaiting (closings : List ℕ) (after : List Mark) (place : ℕ) : Type 0 where
+  pub each : (depth : ℕ) → option_map (λ n. place + n) (inside after depth) ≡ slice_get (reverse closings) depth

@@ -1,5 +1,6 @@
 ghost use Rattle.std.specs.Prelude.{◌≡◌, ◌+◌, ◌^◌, ◌<◌, ◌++◌, length, option_map, OnOk, IfOk};
 ghost use Rattle.hold_sdflex.specs.Pieces.{pieces_of, pieces_of_text};
+ghost use Rattle.hold_sdflex.specs.Waiting.{shown_front, shown};
 
 use crate::front::{Front, front_of};
 use crate::piece::Piece;
@@ -10,7 +11,7 @@ use std::alloc::Global;
 /// no end.
 pub(crate) fn pieces_of_text(alloc: Global, text: &[u8]) -> Result<Option<Vec<Piece>>, Memory>
     requires { length text.now < 2 ^ 32 }
-    ensures { IfOk result (λ found. option_map (λ v. v.items) found ≡ pieces_of_text text.now) }
+    ensures { IfOk result (λ found. option_map (λ v. shown v.items) found ≡ pieces_of_text text.now) }
 {
     let mut pieces = Vec::new(alloc);
     let mut at = 0;
@@ -26,7 +27,7 @@ pub(crate) fn pieces_of_text(alloc: Global, text: &[u8]) -> Result<Option<Vec<Pi
 
 fn push_front(pieces: &mut Vec<Piece>, front: Front, at: usize) -> Result<(), Memory>
     requires { at + front.len < 2 ^ 32 }
-    ensures { OnOk result (pieces.new.items ≡ pieces.old.items ++ pieces_of front.form at (at + front.len)) }
+    ensures { OnOk result (shown pieces.new.items ≡ shown pieces.old.items ++ pieces_of (shown_front front).mark at (at + front.len)) }
 {
     if let Some(form) = front.form {
         pieces.push(Piece {

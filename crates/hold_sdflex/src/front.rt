@@ -1,16 +1,15 @@
-ghost use Rattle.std.specs.Prelude.{◌≡◌, ◌+◌, ◌^◌, ◌<◌, ◌≤◌, ◌==◌, length, position, IfSome};
+ghost use Rattle.std.specs.Prelude.{◌≡◌, ◌+◌, ◌^◌, ◌<◌, ◌≤◌, ◌==◌, ◌∷◌, length, position, false, None, Some, option_map, IfSome};
 ghost use Rattle.hold_sdflex.specs.Front.{
+  atom,
+  slash,
   is_white,
   ends_atom,
   line_rest,
   block_rest,
-  atom_rest,
-  gap,
-  piece,
-  atom_after,
-  after_slash,
+  atom_length,
   front_of,
 };
+ghost use Rattle.hold_sdflex.specs.Waiting.{shown_front, atom_left};
 
 use crate::piece::Form;
 
@@ -25,7 +24,7 @@ pub(crate) struct Front {
 /// The front of a text, given as its first byte and the rest. None where it has no end.
 pub(crate) fn front_of(first: u8, rest: &[u8]) -> Option<Front>
     requires { length rest.now < 2 ^ 32 }
-    ensures value { result ≡ front_of first rest.now }
+    ensures value { option_map shown_front result ≡ front_of first rest.now }
     ensures not_empty { IfSome result (λ front. 0 < front.len) }
     ensures within { IfSome result (λ front. front.len ≤ length rest.now + 1) }
 {
@@ -38,40 +37,43 @@ pub(crate) fn front_of(first: u8, rest: &[u8]) -> Option<Front>
         b':' => Some(piece(Form::Colon, 1)),
         b'"' => Some(piece(Form::Text, place_of(b'"', rest)? + 2)),
         b'/' => after_slash(rest),
-        _ => atom_after(first == b'\\', rest),
+        _ => atom_after(first, rest),
     }
 }
 
 fn after_slash(rest: &[u8]) -> Option<Front>
     requires { length rest.now < 2 ^ 32 }
-    ensures value { result ≡ after_slash rest.now }
+    ensures value { option_map shown_front result ≡ front_of slash rest.now }
     ensures not_empty { IfSome result (λ front. 0 < front.len) }
     ensures within { IfSome result (λ front. front.len ≤ length rest.now + 1) }
 {
     match rest {
         [b'/', line @ ..] => Some(gap(line_rest(line) + 2)),
         [b'*', block @ ..] => Some(gap(block_rest(block)? + 2)),
-        _ => atom_after(false, rest),
+        _ => atom_after(b'/', rest),
     }
 }
 
-fn atom_after(taken: bool, rest: &[u8]) -> Option<Front>
-    requires { length rest.now < 2 ^ 32 }
-    ensures value { result ≡ atom_after taken rest.now }
+#[tactic(auto, using(crate::proofs::Counting::atom_front))]
+fn atom_after(first: u8, rest: &[u8]) -> Option<Front>
+    requires within { length rest.now < 2 ^ 32 }
+    requires begins { ends_atom first ≡ false }
+    ensures value { option_map shown_front result ≡ option_map (λ n. record { mark = Some atom; len = n }) (atom_length (first ∷ rest.now)) }
     ensures not_empty { IfSome result (λ front. 0 < front.len) }
     ensures within { IfSome result (λ front. front.len ≤ length rest.now + 1) }
 {
-    Some(piece(Form::Atom, atom_rest(taken, rest)? + 1))
+    let len = atom_left(first == b'\\', rest)?;
+    Some(piece(Form::Atom, len + 1))
 }
 
 fn gap(len: usize) -> Front
-    ensures { result ≡ gap len }
+    ensures { result ≡ record { form = None; len = len } }
 {
     Front { form: None, len }
 }
 
 fn piece(form: Form, len: usize) -> Front
-    ensures { result ≡ piece form len }
+    ensures { result ≡ record { form = Some form; len = len } }
 {
     Front {
         form: Some(form),
@@ -124,8 +126,8 @@ fn block_rest(bytes: &[u8]) -> Option<usize>
 }
 
 #[tactic(auto, using(crate::proofs::Counting::atom_steps))]
-fn atom_rest(first_taken: bool, bytes: &[u8]) -> Option<usize>
-    ensures value { result ≡ atom_rest first_taken bytes.now }
+fn atom_left(first_taken: bool, bytes: &[u8]) -> Option<usize>
+    ensures value { result ≡ atom_left first_taken bytes.now }
     ensures within { IfSome result (λ n. n ≤ length bytes.now) }
 {
     let mut taken = first_taken;

@@ -12,9 +12,9 @@ ghost use Rattle.std.specs.Prelude.{
   IfSome,
   if◌then◌else◌,
 };
-ghost use Rattle.hold_sdflex.specs.declared.piece.Piece.{Piece as PieceValue};
-ghost use Rattle.hold_sdflex.specs.Nesting.{paired_form, paired};
-ghost use Rattle.hold_sdflex.specs.Waiting.{AreWaiting};
+ghost use Rattle.hold_sdflex.specs.Front.{Mark};
+ghost use Rattle.hold_sdflex.specs.Nesting.{form_of, mark_in, paired};
+ghost use Rattle.hold_sdflex.specs.Waiting.{shown, AreWaiting};
 
 use crate::piece::{Form, Piece};
 use hold_base::Memory;
@@ -24,7 +24,7 @@ use std::alloc::Global;
 /// pieces are of no use.
 pub(crate) fn pair(alloc: Global, pieces: &mut [Piece]) -> Result<bool, Memory>
     requires { length pieces.old < 2 ^ 32 }
-    ensures { IfOk result (λ all. paired pieces.old 0 ≡ (if all then Some pieces.new else None)) }
+    ensures { IfOk result (λ all. paired (shown pieces.old) 0 ≡ (if all then Some pieces.new else None)) }
 {
     let mut closings = Vec::new(alloc);
     for place in (0..pieces.len()).rev() {
@@ -38,10 +38,10 @@ pub(crate) fn pair(alloc: Global, pieces: &mut [Piece]) -> Result<bool, Memory>
 
 // The paired form of the piece at a place, and then the closings that wait from this place on.
 fn paired_form(form: Form, place: u32, closings: &mut Vec<u32>) -> Result<Option<Form>, Memory>
-    ensures form { (after : List PieceValue) → AreWaiting closings.old.items after (place + 1)
-        → IfOk result (λ found. found ≡ paired_form form place after) }
-    ensures waiting { (piece : PieceValue) (after : List PieceValue) → AreWaiting closings.old.items after (place + 1)
-        → piece.form ≡ form → IfOk result (λ found. IfSome found (λ _. AreWaiting closings.new.items (piece ∷ after) place)) }
+    ensures form { (after : List Mark) → AreWaiting closings.old.items after (place + 1)
+        → IfOk result (λ found. found ≡ form_of (mark_in form) place after) }
+    ensures waiting { (after : List Mark) → AreWaiting closings.old.items after (place + 1)
+        → IfOk result (λ found. IfSome found (λ _. AreWaiting closings.new.items (mark_in form ∷ after) place)) }
 {
     match form {
         Form::Open { .. } => Ok(closings.pop().map(|close| Form::Open { close })),

@@ -9,7 +9,8 @@ pub enum Form {
     Colon,
     /// A string with its quotes.
     Text,
-    /// A word, a number or a sign: a run of bytes that none of the others takes.
+    /// A word, a number or a sign: a run of bytes that none of the others takes. A backslash takes the next byte,
+    /// whatever it is, so that byte belongs to the run too.
     Atom,
 }
 

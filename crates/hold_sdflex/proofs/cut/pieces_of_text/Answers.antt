@@ -1,5 +1,6 @@
 use Rattle.std.proofs.Common.{sym, ◌∙◌, arith}
 use Rattle.std.proofs.lemmas.List.{take_rest}
+use Rattle.hold_sdflex.specs.Waiting.{shown_front, shown}
 use Rattle.hold_sdflex.proofs.Cutting.{front_found}
 use Rattle.hold_sdflex.proofs.cut.pieces_of_text.Goals as goal
 
@@ -11,5 +12,5 @@ loop-at-preserved c =
       within = omega (arith, c.in-Some.ensures.within);
       found =
           rw c.in_ok-push_front.ensures
-          (sym (front_found c.args.text.now c.loop-at.at 0 (omega arith) c.loop-at.pieces.items c.in-Some.front (sym front_is) c.in-Some.ensures.not_empty) ∙ c.loop-at.invariant.found);
+          (sym (front_found c.args.text.now c.loop-at.at 0 (omega arith) (shown c.loop-at.pieces.items) (shown_front c.in-Some.front) (sym front_is) c.in-Some.ensures.not_empty) ∙ c.loop-at.invariant.found);
     }
