@@ -1,0 +1,14 @@
+//! Writes a netlist as Verilog: its one canonical text.
+#![tactic(auto)]
+
+mod bits;
+mod canonical;
+mod insts;
+mod keyword;
+mod lines;
+mod module;
+mod name;
+mod range;
+mod source;
+
+pub use canonical::write;

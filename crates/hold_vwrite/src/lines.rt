@@ -1,0 +1,109 @@
+ghost use Rattle.std.specs.Prelude.{◌≡◌, ◌≤◌, ◌++◌, length, flat_map, OnOk};
+ghost use Rattle.std.specs.List.{AllByRecursion};
+ghost use Rattle.hold_netlist.specs.Bits.{bits_of};
+ghost use Rattle.hold_netlist.specs.CanonicalText.{direction_text, port_line, port_lines, wire_line, assign_line};
+ghost use Rattle.hold_netlist.specs.WellFormed.{IsWrittenAssign};
+ghost use Rattle.hold_vwrite.specs.Ends.{bit_ends_from};
+
+use crate::bits::put_bit;
+use crate::name::put_name;
+use crate::range::put_range;
+use crate::source::put_source;
+use hold_base::Memory;
+use hold_netlist::{Assign, Direction, Port, Wire};
+
+/// The word of a direction, and a space.
+fn direction_word(direction: Direction) -> &'static [u8]
+    ensures { result.now ≡ direction_text direction }
+{
+    match direction {
+        Direction::Input => b"input ",
+        Direction::Output => b"output ",
+    }
+}
+
+/// Appends the line of a port, whose wire is `wire`.
+fn put_port_line(out: &mut Vec<u8>, port: &Port, wire: &Wire) -> Result<(), Memory>
+    ensures { OnOk result (out.new.items ≡ out.old.items ++ port_line port.now wire.now) }
+{
+    out.extend_from_slice(b"  ")?;
+    out.extend_from_slice(direction_word(port.direction))?;
+    put_range(out, wire.range)?;
+    put_name(out, &port.name)?;
+    out.extend_from_slice(b";\n")?;
+    Ok(())
+}
+
+/// Appends the lines of the ports, whose wires are the first wires.
+pub(crate) fn put_port_lines(
+    out: &mut Vec<u8>,
+    ports: &[Port],
+    wires: &[Wire],
+) -> Result<(), Memory>
+    requires { length ports.now ≤ length wires.now }
+    ensures { OnOk result (out.new.items ≡ out.old.items ++ port_lines ports.now wires.now) }
+{
+    for (i, port) in ports.iter().enumerate() {
+        put_port_line(out, port, &wires[i])?;
+    }
+    Ok(())
+}
+
+/// Appends the line of a wire that is no port's.
+fn put_wire_line(out: &mut Vec<u8>, wire: &Wire) -> Result<(), Memory>
+    ensures { OnOk result (out.new.items ≡ out.old.items ++ wire_line wire.now) }
+{
+    out.extend_from_slice(b"  wire ")?;
+    put_range(out, wire.range)?;
+    put_name(out, &wire.name)?;
+    out.extend_from_slice(b";\n")?;
+    Ok(())
+}
+
+/// Appends the lines of wires that are no ports'.
+pub(crate) fn put_wire_lines(out: &mut Vec<u8>, wires: &[Wire]) -> Result<(), Memory>
+    ensures { OnOk result (out.new.items ≡ out.old.items ++ flat_map wire_line wires.now) }
+{
+    for wire in wires {
+        put_wire_line(out, wire)?;
+    }
+    Ok(())
+}
+
+/// Appends the line of an assigned bit.
+fn put_assign_line(
+    out: &mut Vec<u8>,
+    wires: &[Wire],
+    ends: &[u32],
+    assign: &Assign,
+) -> Result<(), Memory>
+    requires ends { ends.now ≡ bit_ends_from 0 wires.now }
+    requires few { bits_of wires.now ≤ 33554432 }
+    requires written { IsWrittenAssign (bits_of wires.now) assign.now }
+    ensures { OnOk result (out.new.items ≡ out.old.items ++ assign_line wires.now assign.now) }
+{
+    out.extend_from_slice(b"  assign ")?;
+    put_bit(out, wires, ends, assign.left)?;
+    out.extend_from_slice(b" = ")?;
+    put_source(out, wires, ends, assign.right)?;
+    out.extend_from_slice(b";\n")?;
+    Ok(())
+}
+
+/// Appends the lines of the assigned bits.
+pub(crate) fn put_assign_lines(
+    out: &mut Vec<u8>,
+    wires: &[Wire],
+    ends: &[u32],
+    assigns: &[Assign],
+) -> Result<(), Memory>
+    requires ends { ends.now ≡ bit_ends_from 0 wires.now }
+    requires few { bits_of wires.now ≤ 33554432 }
+    requires written { AllByRecursion (IsWrittenAssign (bits_of wires.now)) assigns.now }
+    ensures { OnOk result (out.new.items ≡ out.old.items ++ flat_map (assign_line wires.now) assigns.now) }
+{
+    for assign in assigns {
+        put_assign_line(out, wires, ends, assign)?;
+    }
+    Ok(())
+}
