@@ -59,7 +59,8 @@ bit_text-at n (w ∷ ws) bit (suc i) d h before behind =
     let outside : nat_lt bit (width_of w) ≡ false = grind (arith, nat_tests) in
     let same : n + width_of w + (bit - width_of w) ≡ n + bit = omega arith in
     let rest = bit_text-at (n + width_of w) ws (bit - width_of w) i d (omega arith) (λ j k. rw same (before (suc j) (omega arith))) (rw same behind) in
-    (rw same at rest.0, rw same at (cc))
+    let step : bit_text (w ∷ ws) bit ≡ bit_text ws (bit - width_of w) = cc in
+    (rw same at rest.0, step ∙ (rw same at rest.1))
 
 less_than : (a b : ℕ) → (b ≤ a → ⊥) → a < b
 less_than a b never = by_test (leb_tells b a)
@@ -89,7 +90,7 @@ module _ (wires : List Wire) (ends : List ℕ) (table : ends ≡ bit_ends_from 0
 
     module _ (behind : bit < get_or ends p 0) where
       there : (get_or (bit_ends_from 0 wires) p 0 ≤ bit + width_of (get_or wires p w)) × (bit_text wires bit ≡ bit_of_wire (get_or wires p w) (bit - (get_or (bit_ends_from 0 wires) p 0 - width_of (get_or wires p w))))
-      there = bit_text-at 0 wires bit p w within (λ j k. omega (arith, table-at j, before j k)) (omega (arith, table-at p))
+      there = let plain : 0 + bit ≡ bit = omega arith in rw plain at (bit_text-at 0 wires bit p w within (λ j k. omega (arith, table-at j, before j k)) (omega (arith, table-at p)))
 
       pub end_near : get_or ends p 0 ≤ bit + width_of w
       end_near = omega (arith, there.0, table-at p, ap width_of is)

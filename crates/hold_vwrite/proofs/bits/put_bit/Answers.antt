@@ -26,7 +26,8 @@ overflow_sub-bit c = let near = end_near c.args.wires.now c.args.ends.now c.requ
 pub put_bit_of_wire-requires : goal.put_bit_of_wire-requires
 put_bit_of_wire-requires c =
     let behind = (c.ended-place.ensures.behind (omega (arith, length-table c.args.wires.now c.args.ends.now c.requires.ends c.args.bit.0 c.ended-place.result c.ended-place.ensures.before, place_within c.args.wires.now c.args.ends.now c.requires.ends c.args.bit.0 c.ended-place.result c.ended-place.ensures.before c.requires.within))) in
-    omega (arith, c.width.ensures, behind, width_in_end c.args.wires.now c.args.ends.now c.requires.ends c.args.bit.0 c.ended-place.result c.ended-place.ensures.before (place_within c.args.wires.now c.args.ends.now c.requires.ends c.args.bit.0 c.ended-place.result c.ended-place.ensures.before c.requires.within) c.index-wires-place.result c.index-wires-place.is)
+    let near = end_near c.args.wires.now c.args.ends.now c.requires.ends c.args.bit.0 c.ended-place.result c.ended-place.ensures.before (place_within c.args.wires.now c.args.ends.now c.requires.ends c.args.bit.0 c.ended-place.result c.ended-place.ensures.before c.requires.within) c.index-wires-place.result c.index-wires-place.is (c.ended-place.ensures.behind (omega (arith, length-table c.args.wires.now c.args.ends.now c.requires.ends c.args.bit.0 c.ended-place.result c.ended-place.ensures.before, place_within c.args.wires.now c.args.ends.now c.requires.ends c.args.bit.0 c.ended-place.result c.ended-place.ensures.before c.requires.within))) in
+    omega (arith, c.width.ensures, behind, near, width_in_end c.args.wires.now c.args.ends.now c.requires.ends c.args.bit.0 c.ended-place.result c.ended-place.ensures.before (place_within c.args.wires.now c.args.ends.now c.requires.ends c.args.bit.0 c.ended-place.result c.ended-place.ensures.before c.requires.within) c.index-wires-place.result c.index-wires-place.is)
 
 pub returns : goal.returns
 returns c = rw (bit_text-here c.args.wires.now c.args.ends.now c.requires.ends c.args.bit.0 c.ended-place.result c.ended-place.ensures.before (place_within c.args.wires.now c.args.ends.now c.requires.ends c.args.bit.0 c.ended-place.result c.ended-place.ensures.before c.requires.within) c.index-wires-place.result c.index-wires-place.is (c.ended-place.ensures.behind (omega (arith, length-table c.args.wires.now c.args.ends.now c.requires.ends c.args.bit.0 c.ended-place.result c.ended-place.ensures.before, place_within c.args.wires.now c.args.ends.now c.requires.ends c.args.bit.0 c.ended-place.result c.ended-place.ensures.before c.requires.within))) c.width.result c.width.ensures) (c.put_bit_of_wire.ensures)
