@@ -1,3 +1,2 @@
-pub mod Lists
 pub mod EndLemmas
-pub mod NetlistLemmas
+pub mod Lists

@@ -12,12 +12,7 @@ use hold_base::Memory;
 use hold_netlist::{Inst, Pin, Wire};
 
 /// Appends a connection, also an empty one.
-fn put_connection(
-    out: &mut Vec<u8>,
-    wires: &[Wire],
-    ends: &[u32],
-    pin: &Pin,
-) -> Result<(), Memory>
+fn put_connection(out: &mut Vec<u8>, wires: &[Wire], ends: &[u32], pin: &Pin) -> Result<(), Memory>
     requires ends { ends.now ≡ bit_ends_from 0 wires.now }
     requires few { bits_of wires.now ≤ 33554432 }
     requires written { IsWrittenPin (bits_of wires.now) pin.now }
@@ -51,7 +46,6 @@ fn put_more_connections(
 }
 
 /// Appends the connections, with a comma between each and the next.
-#[tactic(auto, using(crate::proofs::Lists::joined_cons))]
 fn put_connections(
     out: &mut Vec<u8>,
     wires: &[Wire],
@@ -73,12 +67,7 @@ fn put_connections(
 }
 
 /// Appends the line of an instance.
-fn put_inst_line(
-    out: &mut Vec<u8>,
-    wires: &[Wire],
-    ends: &[u32],
-    inst: &Inst,
-) -> Result<(), Memory>
+fn put_inst_line(out: &mut Vec<u8>, wires: &[Wire], ends: &[u32], inst: &Inst) -> Result<(), Memory>
     requires ends { ends.now ≡ bit_ends_from 0 wires.now }
     requires few { bits_of wires.now ≤ 33554432 }
     requires written { IsWrittenInst (bits_of wires.now) inst.now }

@@ -10,5 +10,7 @@ mod module;
 mod name;
 mod range;
 mod source;
+#[cfg(test)]
+mod tests;
 
 pub use canonical::write;

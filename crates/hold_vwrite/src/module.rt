@@ -19,7 +19,6 @@ fn put_more_ports(out: &mut Vec<u8>, ports: &[Port]) -> Result<(), Memory>
 }
 
 /// Appends the names of the ports, with a comma between each and the next.
-#[tactic(auto, using(crate::proofs::Lists::joined_cons))]
 fn put_port_names(out: &mut Vec<u8>, ports: &[Port]) -> Result<(), Memory>
     ensures { OnOk result (out.new.items ≡ out.old.items ++ joined (map spelled (port_names ports.now))) }
 {
@@ -33,11 +32,7 @@ fn put_port_names(out: &mut Vec<u8>, ports: &[Port]) -> Result<(), Memory>
 }
 
 /// Appends the line that begins the module.
-pub(crate) fn put_module_line(
-    out: &mut Vec<u8>,
-    name: &Name,
-    ports: &[Port],
-) -> Result<(), Memory>
+pub(crate) fn put_module_line(out: &mut Vec<u8>, name: &Name, ports: &[Port]) -> Result<(), Memory>
     ensures { OnOk result (out.new.items ≡ out.old.items ++ module_line name.now ports.now) }
 {
     out.extend_from_slice(b"module ")?;

@@ -1,4 +1,4 @@
-use Rattle.std.proofs.Common.{◌≡◌, arith}
+use Rattle.std.proofs.Common.{arith}
 use Rattle.hold_vwrite.proofs.EndLemmas.{bit_ends-IsNonDecreasing, length-table, place_within, width_few, width_in_end, end_near, bit_text-here}
 use Rattle.hold_vwrite.proofs.bits.put_bit.Goals as goal
 
