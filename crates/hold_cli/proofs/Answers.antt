@@ -9,7 +9,7 @@ use Rattle.hold_netlist.specs.Design.{Design}
 use Rattle.hold_netlist.specs.CanonicalText.{canonical_text}
 use Rattle.hold_cli.specs.Command.{IsRepair}
 use Rattle.hold_cli.specs.Outcome.{GivesUp}
-use Rattle.hold_cli.specs.Front.{IsJobAt, IsJobRead, named_by, IsTold, RefusesJob, Refuses, IsFront}
+use Rattle.hold_cli.specs.Front.{IsJobAt, IsJobRead, IsServedText, named_by, IsTold, RefusesJob, Refuses, IsFront}
 use Rattle.hold_cli.specs.Texts.{Ready, NotAmong, IsDone, SaysNothing}
 use Rattle.hold_cli.specs.Answer.{refusal_line, only_line, repair_texts, AreTexts, IsAnswer, IsRefusal, IsDelivery}
 use Rattle.hold_cli.proofs.TextsLemmas.{IsDone-after, Fails-after, SaysNothing-reads, Fails-keeps}
@@ -19,28 +19,29 @@ use Rattle.hold_cli.specs.JobForm.{IsJobText}
 use Rattle.hold_cli.proofs.FrontLemmas.{refused_told, front_told, refused_or_front, one_fault}
 
 pub delivered : (old mid new : Told) (name : List ℕ) (job : Job) (text : List ℕ) (outcome : Outcome) → OnlyReads old mid
-    → IsJobRead old name job
+    → IsJobRead old name job → IsServedText text
     → (IsTold old name → (netlist : Design) × IsFront old name job netlist × (text ≡ canonical_text netlist))
     → IsDelivery mid new job text outcome → IsAnswer old new name outcome
-delivered old mid new name job text (Repaired cost) reads read front done = record {
+delivered old mid new name job text (Repaired cost) reads read spelled front done = record {
   job = job;
   text = text;
   free = done.0;
   read = read;
+  spelled = spelled;
   done = IsDone-after old mid new (repair_texts job text) reads done.1;
   front = front;
 }
-delivered old mid new name job text WriteFault reads read front fails = record {
+delivered old mid new name job text WriteFault reads read spelled front fails = record {
   ready = repair_texts job text;
   fails = Fails-after old mid new (repair_texts job text) reads fails;
-  texts = inr (job, text, read, refl);
+  texts = inr (job, text, read, spelled, refl);
   comes = λ told. let f = front told in
       (Repaired 0, (job, f.0, f.1, refl, ap (repair_texts job) f.2));
 }
-delivered old mid new name job text (Input fault) reads read front never = absurd never
-delivered old mid new name job text (ReadFault file) reads read front never = absurd never
-delivered old mid new name job text Memory reads read front never = absurd never
-delivered old mid new name job text Words reads read front never = absurd never
+delivered old mid new name job text (Input fault) reads read spelled front never = absurd never
+delivered old mid new name job text (ReadFault file) reads read spelled front never = absurd never
+delivered old mid new name job text Memory reads read spelled front never = absurd never
+delivered old mid new name job text Words reads read spelled front never = absurd never
 
 pub refused : (old mid new : Told) (name : List ℕ) (fault : Fault) (outcome : Outcome) → OnlyReads old mid
     → (IsTold old name → Refuses old name fault)
@@ -108,7 +109,7 @@ texts_apart : (old : Told) (name file : List ℕ) (ready : Ready) → AreTexts o
 texts_apart old name file ready (inl refusal) apart = subst (λ (r : Ready). NotAmong file r.files) (sym refusal.1) tt
 texts_apart old name file ready (inr repair) apart =
     let both = apart repair.0 repair.2 in
-    subst (λ (r : Ready). NotAmong file r.files) (sym repair.3) (input_apart repair.0 repair.1 file both.0 both.1)
+    subst (λ (r : Ready). NotAmong file r.files) (sym repair.4) (input_apart repair.0 repair.1 file both.0 both.1)
 
 -- a file that every job that may have been read keeps apart stays as it was
 input_kept : (old new : Told) (name file : List ℕ) (outcome : Outcome) → IsAnswer old new name outcome

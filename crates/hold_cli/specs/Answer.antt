@@ -17,7 +17,7 @@ use Rattle.hold_cli.specs.declared.outcome.Fault.{Fault}
 use Rattle.hold_cli.specs.declared.outcome.Fault.TheVariants.{TooLong, NotBuilt}
 use Rattle.hold_cli.specs.declared.outcome.Outcome.{Outcome}
 use Rattle.hold_cli.specs.declared.outcome.Outcome.TheVariants.{Repaired, Input, ReadFault, WriteFault, Memory, Words}
-use Rattle.hold_cli.specs.Front.{IsJobAt, IsJobRead, named_by, ComesTo, IsTold, RefusesJob, Refuses, IsFront}
+use Rattle.hold_cli.specs.Front.{IsJobAt, IsJobRead, IsServedText, named_by, ComesTo, IsTold, RefusesJob, Refuses, IsFront}
 use Rattle.hold_cli.specs.Texts.{Ready, IsDone, Fails, FailsInLine, SaysNothing}
 use Rattle.hold_netlist.specs.Design.{Design}
 use Rattle.hold_netlist.specs.CanonicalText.{canonical_text}
@@ -45,13 +45,14 @@ repair_texts job text = record { files = (job.certificate, whole_certificate) �
 abbrev pub AreTexts : Told → List ℕ → Ready → Type 0
 AreTexts told name ready =
     ((fault : Fault) × (ready ≡ only_line (refusal_line fault)))
-    ⊎ ((job : Job) × (text : List ℕ) × IsJobRead told name job × (ready ≡ repair_texts job text))
+    ⊎ ((job : Job) × (text : List ℕ) × IsJobRead told name job × IsServedText text × (ready ≡ repair_texts job text))
 
 pub record IsRepaired (old new : Told) (name : List ℕ) (cost : ℕ) : Type 0 where
   pub job : Job
   pub text : List ℕ
   pub free : cost ≡ 0
   pub read : IsJobRead old name job
+  pub spelled : IsServedText text
   pub done : IsDone old new (repair_texts job text)
   pub front : IsTold old name → (netlist : Design) × IsFront old name job netlist × (text ≡ canonical_text netlist)
 

@@ -2,6 +2,7 @@
 --
 -- file_limit: how many bytes a job or a netlist may have, 2^26.
 -- IsServed netlist: a valid netlist of the form that is served today: plain, and without instances.
+-- IsServedText text: the canonical text of a netlist of the form that is served.
 -- HasText told file text: the content of the file is told, it is this text, and it is within the limit.
 -- IsTooLong told file: the content is told and passes the limit.
 -- IsJobAt told name job: the file `name` holds this job.
@@ -31,6 +32,9 @@ pub record IsServed (netlist : Design) : Type 0 where
   pub valid : IsValid netlist
   pub plain : IsPlain netlist
   pub bare : netlist.insts ≡ []
+
+abbrev pub IsServedText : List ℕ → Type 0
+IsServedText text = (netlist : Design) × IsServed netlist × (text ≡ canonical_text netlist)
 
 pub record HasText (told : Told) (file text : List ℕ) : Type 0 where
   pub content : told.content file ≡ Some text

@@ -5,7 +5,7 @@ ghost use Rattle.hold_cli.specs.declared.job_form.Job.{Job as JobData};
 ghost use Rattle.hold_cli.specs.JobForm.{IsJobText};
 ghost use Rattle.hold_netlist.specs.Design.{Design};
 ghost use Rattle.hold_netlist.specs.CanonicalText.{canonical_text};
-ghost use Rattle.hold_cli.specs.Front.{IsServed, HasText, IsJobAt, IsJobRead, named_by, ComesTo, IsTold, RefusesJob, RefusesNetlist, Refuses, IsFront};
+ghost use Rattle.hold_cli.specs.Front.{IsServed, IsServedText, HasText, IsJobAt, IsJobRead, named_by, ComesTo, IsTold, RefusesJob, RefusesNetlist, Refuses, IsFront};
 
 use crate::canonical;
 use crate::input::{Stopped, read_input};
@@ -27,6 +27,7 @@ pub struct Front {
 /// Reads the job and then the netlist that it names, and stops at the first refusal.
 pub fn read_front<F: Files>(alloc: Global, files: &mut F, name: &Name) -> Result<Front, Stopped>
     ensures job { IfOk result (λ front. IsJobRead (F.told files.old) name.now front.job) }
+    ensures spelled { IfOk result (λ front. IsServedText front.text.items) }
     ensures found { IfOk result (λ front. IsTold (F.told files.old) name.now
         → (netlist : Design) × IsFront (F.told files.old) name.now front.job netlist
         × (front.text.items ≡ canonical_text netlist)) }
@@ -81,6 +82,7 @@ fn read_netlist<F: Files>(alloc: Global, files: &mut F, name: &Name) -> Result<V
         → (netlist : Design) × IsServed netlist
         × HasText (F.told files.old) name.now (canonical_text netlist)
         × (bytes.items ≡ canonical_text netlist)) }
+    ensures spelled { IfOk result (λ bytes. IsServedText bytes.items) }
     ensures named { (fault : Refusal) → IsErrOf result (Stopped.Refused fault)
         → named_by fault ≡ name.now }
     ensures refused { (fault : Refusal) → IsErrOf result (Stopped.Refused fault) → (text : List ℕ)

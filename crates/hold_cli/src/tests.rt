@@ -54,12 +54,13 @@ fn add_text(
 /// The job and its netlist, with outputs that hold `old`.
 fn files_with(
     alloc: Global,
+    job: &[u8],
     netlist: &[u8],
     room: usize,
     fails: Fails,
 ) -> Result<MemoryFiles, Memory> {
     let mut texts = Vec::new(alloc);
-    add_text(alloc, &mut texts, b"e.toml", JOB)?;
+    add_text(alloc, &mut texts, b"e.toml", job)?;
     add_text(alloc, &mut texts, b"e.v", netlist)?;
     add_text(alloc, &mut texts, b"e_out.v", b"old")?;
     add_text(alloc, &mut texts, b"e.cert", b"old")?;
@@ -86,13 +87,14 @@ fn content(alloc: Global, files: &mut MemoryFiles, name: &[u8]) -> Result<Vec<u8
 
 fn run_over(
     alloc: Global,
+    name: &[u8],
     job: &[u8],
     netlist: &[u8],
     room: usize,
     fails: Fails,
 ) -> Result<Ran, Fail> {
-    let words = words_of(alloc, job)?;
-    let mut files = files_with(alloc, netlist, room, fails)?;
+    let words = words_of(alloc, name)?;
+    let mut files = files_with(alloc, job, netlist, room, fails)?;
     let outcome = run(alloc, words.as_slice(), &mut files);
     let said = Vec::from_slice(alloc, files.said())?;
     let certificate = content(alloc, &mut files, b"e.cert")?;
@@ -106,9 +108,9 @@ fn run_over(
 }
 
 /// A run without a fault.
-fn ran_well(alloc: Global, job: &[u8], netlist: &[u8]) -> Result<Ran, Fail> {
+fn ran_well(alloc: Global, name: &[u8], netlist: &[u8]) -> Result<Ran, Fail> {
     let fails = fails_at(alloc, &[], &[], &[], &[])?;
-    run_over(alloc, job, netlist, 1000, fails)
+    run_over(alloc, name, JOB, netlist, 1000, fails)
 }
 
 #[test]
@@ -159,6 +161,16 @@ fn another_netlist_is_not_built(rt: HostRuntime) -> Result<(), Fail> {
     Ok(())
 }
 
+#[test]
+fn another_job_is_not_built(rt: HostRuntime) -> Result<(), Fail> {
+    let alloc = rt.alloc();
+    let fails = fails_at(alloc, &[], &[], &[], &[])?;
+    let ran = run_over(alloc, b"e.toml", b"netlist = ", NETLIST, 1000, fails)?;
+    assert_eq!(rt; status(&ran.outcome), 3);
+    assert_eq!(rt; ran.said.as_slice(), b"input notbuilt e.toml\n".as_slice());
+    Ok(())
+}
+
 /// A run of which something can't be written: what the outputs hold after it.
 fn runs_into(
     rt: &impl Abort,
@@ -168,7 +180,7 @@ fn runs_into(
     certificate: &[u8],
     output: &[u8],
 ) -> Result<(), Fail> {
-    let ran = run_over(alloc, b"e.toml", NETLIST, room, fails)?;
+    let ran = run_over(alloc, b"e.toml", JOB, NETLIST, room, fails)?;
     assert_eq!(rt; status(&ran.outcome), 5);
     assert_eq!(rt; ran.certificate.as_slice(), certificate);
     assert_eq!(rt; ran.output.as_slice(), output);
@@ -240,6 +252,7 @@ fn a_failed_read_names_its_file(rt: HostRuntime) -> Result<(), Fail> {
     let first = run_over(
         alloc,
         b"e.toml",
+        JOB,
         NETLIST,
         1000,
         fails_at(alloc, &[0], &[], &[], &[])?,
@@ -251,6 +264,7 @@ fn a_failed_read_names_its_file(rt: HostRuntime) -> Result<(), Fail> {
     let second = run_over(
         alloc,
         b"e.toml",
+        JOB,
         NETLIST,
         1000,
         fails_at(alloc, &[2], &[], &[], &[])?,

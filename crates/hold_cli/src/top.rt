@@ -4,7 +4,7 @@ ghost use Rattle.hold_cli.specs.declared.outcome.Outcome.{Outcome as Answer};
 ghost use Rattle.hold_cli.specs.declared.outcome.Fault.{Fault as Refusal};
 ghost use Rattle.hold_cli.specs.Outcome.{GivesUp};
 ghost use Rattle.hold_cli.specs.Command.{IsRepair};
-ghost use Rattle.hold_cli.specs.Front.{IsJobAt, IsJobRead, named_by, ComesTo, IsTold, RefusesJob, Refuses, IsFront};
+ghost use Rattle.hold_cli.specs.Front.{IsJobAt, IsJobRead, IsServedText, named_by, ComesTo, IsTold, RefusesJob, Refuses, IsFront};
 ghost use Rattle.hold_netlist.specs.Design.{Design};
 ghost use Rattle.hold_netlist.specs.CanonicalText.{canonical_text};
 ghost use Rattle.hold_cli.specs.declared.job_form.Job.{Job as JobData};
@@ -55,7 +55,7 @@ pub fn run<F: Files>(alloc: Global, words: &[Name], files: &mut F) -> Outcome
     ensures repaired_texts { (name : List ℕ) (cost : ℕ) → IsRepair words.now name
         → result ≡ Outcome.Repaired cost
         → (cost ≡ 0) × ((job : JobData) × (text : List ℕ) × IsJobRead (F.told files.old) name job
-        × IsDone (F.told files.old) (F.told files.new) (repair_texts job text)) }
+        × IsServedText text × IsDone (F.told files.old) (F.told files.new) (repair_texts job text)) }
     ensures only_repaired { (name : List ℕ) (job : JobData) (netlist : Design)
         → IsRepair words.now name
         → IsFront (F.told files.old) name job netlist

@@ -9,7 +9,7 @@ deliver-requires g c = λ same. (IsJobText-apart c.in-Ok.ensures.job.bytes c.arg
 pub returns-in-Ok-clause-answer : goal.returns-in-Ok-clause-answer
 returns-in-Ok-clause-answer g c =
     delivered (g.F.Files.told c.args.files.now) (g.F.Files.told c.read_front.new.files) (g.F.Files.told c.deliver.new.files) c.args.name.now
-    c.in-Ok.front.job c.in-Ok.front.text.items c.deliver.result c.read_front.ensures.stays c.in-Ok.ensures.job c.in-Ok.ensures.found c.deliver.ensures.answer
+    c.in-Ok.front.job c.in-Ok.front.text.items c.deliver.result c.read_front.ensures.stays c.in-Ok.ensures.job c.in-Ok.ensures.spelled c.in-Ok.ensures.found c.deliver.ensures.answer
 
 pub returns-in-Err-Refused-clause-answer : goal.returns-in-Err-Refused-clause-answer
 returns-in-Err-Refused-clause-answer g c =
