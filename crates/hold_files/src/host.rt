@@ -113,7 +113,9 @@ fn write_some<W: Write>(to: &mut W, piece: &[u8]) -> Result<usize, Failed>
 }
 
 /// The path of a name, which has to be UTF-8.
-fn path_of(name: &Name) -> Result<&str, Failed> {
+fn path_of(name: &Name) -> Result<&str, Failed>
+    ensures { IfOk result (λ path. path.now ≡ name.now) }
+{
     match str::from_utf8(name.bytes()) {
         Ok(path) => Ok(path),
         Err(_) => Err(Failed),
@@ -131,7 +133,10 @@ mod tests {
         let missing = Name::from_bytes(rt.alloc(), b"no such folder/at all").expect(&rt, "memory");
         let mut files = HostFiles::new(rt);
 
-        assert!(rt; write_whole(&mut files, &name, b"hold this\n").is_ok());
+        assert!(rt; write_whole(&mut files, &name, b"a longer text, which goes away").is_ok());
+        assert!(rt; files.start(&name).is_ok());
+        assert!(rt; files.put(&name, b"hold ").is_ok());
+        assert!(rt; files.put(&name, b"this\n").is_ok());
         let text = read_whole(rt.alloc(), &mut files, &name, u64::MAX).expect(&rt, "read");
         assert!(rt; text.as_slice() == b"hold this\n".as_slice());
         assert!(rt; read_whole(rt.alloc(), &mut files, &name, 9).err() == Some(ReadError::TooLong));
