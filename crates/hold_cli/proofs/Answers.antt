@@ -4,44 +4,59 @@ use Rattle.hold_files.specs.Told.{Told, Keeps, OnlyReads}
 use Rattle.hold_cli.specs.declared.job_form.Job.{Job}
 use Rattle.hold_cli.specs.declared.outcome.Fault.{Fault}
 use Rattle.hold_cli.specs.declared.outcome.Outcome.{Outcome}
-use Rattle.hold_cli.specs.declared.outcome.Outcome.TheVariants.{Repaired, Input, ReadFault, WriteFault, Memory, Words}
+use Rattle.hold_cli.specs.declared.outcome.Outcome.TheVariants.{Repaired, NeedsPadding, Input, ReadFault, WriteFault, Memory, Words}
 use Rattle.hold_netlist.specs.Design.{Design}
 use Rattle.hold_netlist.specs.CanonicalText.{canonical_text}
 use Rattle.hold_cli.specs.Command.{IsRepair}
 use Rattle.hold_cli.specs.Outcome.{GivesUp}
-use Rattle.hold_cli.specs.Front.{IsJobAt, IsJobRead, IsServedText, named_by, IsTold, RefusesJob, Refuses, IsFront}
+use Rattle.hold_cli.specs.Front.{IsJobAt, IsJobRead, IsBuilt, IsOnlyReading, named_by, IsTold, RefusesJob, Refuses, IsFront}
 use Rattle.hold_cli.specs.Texts.{Ready, NotAmong, IsDone, SaysNothing}
-use Rattle.hold_cli.specs.Answer.{refusal_line, only_line, repair_texts, AreTexts, IsAnswer, IsRefusal, IsDelivery}
+use Rattle.hold_cli.specs.Answer.{refusal_line, only_line, repair_texts, IsVerdict, AreTexts, Comes, IsJudged, IsAnswer, IsRefusal, IsDelivery}
 use Rattle.hold_cli.proofs.TextsLemmas.{IsDone-after, Fails-after, SaysNothing-reads, Fails-keeps}
 use Rattle.hold_cli.proofs.JobApart.{IsJobText-apart}
 use Rattle.hold_cli.proofs.JobFormLemmas.{IsJobText-unique}
 use Rattle.hold_cli.specs.JobForm.{IsJobText}
 use Rattle.hold_cli.proofs.FrontLemmas.{refused_told, front_told, refused_or_front, one_fault}
 
-pub delivered : (old mid new : Told) (name : List ℕ) (job : Job) (text : List ℕ) (outcome : Outcome) → OnlyReads old mid
-    → IsJobRead old name job → IsServedText text
-    → (IsTold old name → (netlist : Design) × IsFront old name job netlist × (text ≡ canonical_text netlist))
-    → IsDelivery mid new job text outcome → IsAnswer old new name outcome
-delivered old mid new name job text (Repaired cost) reads read spelled front done = record {
-  job = job;
-  text = text;
-  free = done.0;
-  read = read;
-  spelled = spelled;
-  done = IsDone-after old mid new (repair_texts job text) reads done.1;
-  front = front;
-}
-delivered old mid new name job text WriteFault reads read spelled front fails = record {
-  ready = repair_texts job text;
-  fails = Fails-after old mid new (repair_texts job text) reads fails;
-  texts = inr (job, text, read, spelled, refl);
-  comes = λ told. let f = front told in
-      (Repaired 0, (job, f.0, f.1, refl, ap (repair_texts job) f.2));
-}
-delivered old mid new name job text (Input fault) reads read spelled front never = absurd never
-delivered old mid new name job text (ReadFault file) reads read spelled front never = absurd never
-delivered old mid new name job text Memory reads read spelled front never = absurd never
-delivered old mid new name job text Words reads read spelled front never = absurd never
+-- a verdict with its texts comes of what the files hold, if they are told
+verdict_comes : (old : Told) (name : List ℕ) (job : Job) (netlist : Design) (verdict : Outcome) (ready : Ready) → IsFront old name job netlist
+    → IsVerdict job netlist verdict ready → Comes old name verdict ready
+verdict_comes old name job netlist (Repaired cost) ready front is = (job, netlist, front, is)
+verdict_comes old name job netlist (NeedsPadding path short) ready front is = (job, netlist, front, is)
+verdict_comes old name job netlist (Input fault) ready front never = absurd never
+verdict_comes old name job netlist (ReadFault file) ready front never = absurd never
+verdict_comes old name job netlist WriteFault ready front never = absurd never
+verdict_comes old name job netlist Memory ready front never = absurd never
+verdict_comes old name job netlist Words ready front never = absurd never
+
+module _ (old mid new : Told) (name : List ℕ) (job : Job) (netlist : Design) (reads : OnlyReads old mid) (read : IsJobRead old name job) (built : IsBuilt job netlist)
+    (only : IsOnlyReading job netlist) (front : IsTold old name → IsFront old name job netlist) where
+  judged : (outcome : Outcome) (ready : Ready) → IsVerdict job netlist outcome ready → IsDone mid new ready → IsJudged old new name outcome
+  judged outcome ready verdict done = record {
+    job = job;
+    netlist = netlist;
+    ready = ready;
+    read = read;
+    built = built;
+    only = only;
+    verdict = verdict;
+    done = IsDone-after old mid new ready reads done;
+    front = front;
+  }
+
+  pub delivered : (outcome : Outcome) → IsDelivery mid new job netlist outcome → IsAnswer old new name outcome
+  delivered (Repaired cost) is = judged (Repaired cost) is.0 is.1 is.2
+  delivered (NeedsPadding path short) is = judged (NeedsPadding path short) is.0 is.1 is.2
+  delivered WriteFault is = record {
+    ready = is.1;
+    fails = Fails-after old mid new is.1 reads is.3;
+    texts = inr (job, netlist, is.0, read, built, is.2);
+    comes = λ told. (is.0, verdict_comes old name job netlist is.0 is.1 (front told) is.2);
+  }
+  delivered Memory same = subst (λ (t : Told). SaysNothing old t) same (SaysNothing-reads old mid reads)
+  delivered (Input fault) never = absurd never
+  delivered (ReadFault file) never = absurd never
+  delivered Words never = absurd never
 
 pub refused : (old mid new : Told) (name : List ℕ) (fault : Fault) (outcome : Outcome) → OnlyReads old mid
     → (IsTold old name → Refuses old name fault)
@@ -61,6 +76,7 @@ refused old mid new name fault WriteFault reads refuses first fails = record {
 refused old mid new name fault Memory reads refuses first same =
     subst (λ (t : Told). SaysNothing old t) same (SaysNothing-reads old mid reads)
 refused old mid new name fault (Repaired cost) reads refuses first never = absurd never
+refused old mid new name fault (NeedsPadding path short) reads refuses first never = absurd never
 refused old mid new name fault (ReadFault file) reads refuses first never = absurd never
 refused old mid new name fault Words reads refuses first never = absurd never
 
@@ -68,11 +84,15 @@ refused old mid new name fault Words reads refuses first never = absurd never
 pub one_repair : (words : List (List ℕ)) (a b : List ℕ) → IsRepair words a → IsRepair words b → a ≡ b
 one_repair words a b first second = let e = first.words_are in let f = second.words_are in cc
 
+-- what is refused is not judged
+refused_or_judged : (old new : Told) (name : List ℕ) (fault : Fault) (outcome : Outcome) → IsJudged old new name outcome → Refuses old name fault → ⊥
+refused_or_judged old new name fault outcome answer refuses =
+    refused_or_front old name fault answer.job answer.netlist refuses (answer.front (refused_told old name fault refuses))
+
 refused_alone : (old new : Told) (name : List ℕ) (fault : Fault) (outcome : Outcome) → IsAnswer old new name outcome → Refuses old name fault
     → (outcome ≡ Input fault) ⊎ GivesUp outcome
-refused_alone old new name fault (Repaired cost) answer refuses =
-    let f = answer.front (refused_told old name fault refuses) in
-    absurd (refused_or_front old name fault answer.job f.0 refuses f.1)
+refused_alone old new name fault (Repaired cost) answer refuses = absurd (refused_or_judged old new name fault (Repaired cost) answer refuses)
+refused_alone old new name fault (NeedsPadding path short) answer refuses = absurd (refused_or_judged old new name fault (NeedsPadding path short) answer refuses)
 refused_alone old new name fault (Input other) answer refuses =
     inl (ap Input (one_fault old name other fault (answer.refuses (refused_told old name fault refuses)) refuses))
 refused_alone old new name fault (ReadFault file) answer refuses = inr tt
@@ -85,38 +105,39 @@ pub only_refused : (old new : Told) (words : List (List ℕ)) (named name : List
 only_refused old new words named name fault outcome repair answer other refuses =
     refused_alone old new named fault outcome answer (subst (λ (n : List ℕ). Refuses old n fault) (one_repair words name named other repair) refuses)
 
-repaired_alone : (old new : Told) (name : List ℕ) (job : Job) (netlist : Design) (outcome : Outcome) → IsAnswer old new name outcome → IsFront old name job netlist
-    → (outcome ≡ Repaired 0) ⊎ GivesUp outcome
-repaired_alone old new name job netlist (Repaired cost) answer front = inl (ap Repaired answer.free)
-repaired_alone old new name job netlist (Input fault) answer front =
-    absurd (refused_or_front old name fault job netlist (answer.refuses (front_told old name job netlist front)) front)
-repaired_alone old new name job netlist (ReadFault file) answer front = inr tt
-repaired_alone old new name job netlist WriteFault answer front = inr tt
-repaired_alone old new name job netlist Memory answer front = inr tt
-repaired_alone old new name job netlist Words answer front = absurd answer
-
-pub only_repaired : (old new : Told) (words : List (List ℕ)) (named name : List ℕ) (job : Job) (netlist : Design) (outcome : Outcome) → IsRepair words named
-    → IsAnswer old new named outcome → IsRepair words name → IsFront old name job netlist → (outcome ≡ Repaired 0) ⊎ GivesUp outcome
-only_repaired old new words named name job netlist outcome repair answer other front =
-    repaired_alone old new named job netlist outcome answer (subst (λ (n : List ℕ). IsFront old n job netlist) (one_repair words name named other repair) front)
-
 -- a file that a job keeps apart from what it writes is among no texts
 input_apart : (job : Job) (text file : List ℕ) → job.certificate ≢ file → job.output ≢ file → NotAmong file (repair_texts job text).files
 input_apart job text file certificate output = (λ e. certificate (sym e), (λ e. output (sym e), tt))
 
+verdict_apart : (job : Job) (netlist : Design) (verdict : Outcome) (ready : Ready) (file : List ℕ) → job.certificate ≢ file → job.output ≢ file
+    → IsVerdict job netlist verdict ready → NotAmong file ready.files
+verdict_apart job netlist (Repaired cost) ready file certificate output is =
+    subst (λ (r : Ready). NotAmong file r.files) (sym is.2) (input_apart job (canonical_text netlist) file certificate output)
+verdict_apart job netlist (NeedsPadding path short) ready file certificate output is = subst (λ (r : Ready). NotAmong file r.files) (sym is.1) tt
+verdict_apart job netlist (Input fault) ready file certificate output never = absurd never
+verdict_apart job netlist (ReadFault other) ready file certificate output never = absurd never
+verdict_apart job netlist WriteFault ready file certificate output never = absurd never
+verdict_apart job netlist Memory ready file certificate output never = absurd never
+verdict_apart job netlist Words ready file certificate output never = absurd never
+
 texts_apart : (old : Told) (name file : List ℕ) (ready : Ready) → AreTexts old name ready
     → ((job : Job) → IsJobRead old name job → (job.certificate ≢ file) × (job.output ≢ file)) → NotAmong file ready.files
 texts_apart old name file ready (inl refusal) apart = subst (λ (r : Ready). NotAmong file r.files) (sym refusal.1) tt
-texts_apart old name file ready (inr repair) apart =
-    let both = apart repair.0 repair.2 in
-    subst (λ (r : Ready). NotAmong file r.files) (sym repair.4) (input_apart repair.0 repair.1 file both.0 both.1)
+texts_apart old name file ready (inr is) apart =
+    let both = apart is.0 is.3 in
+    verdict_apart is.0 is.1 is.2 ready file both.0 both.1 is.5
+
+judged_kept : (old new : Told) (name file : List ℕ) (outcome : Outcome) → IsJudged old new name outcome
+    → ((job : Job) → IsJobRead old name job → (job.certificate ≢ file) × (job.output ≢ file)) → Keeps old new file
+judged_kept old new name file outcome answer apart =
+    let both = apart answer.job answer.read in
+    answer.done.others file (verdict_apart answer.job answer.netlist outcome answer.ready file both.0 both.1 answer.verdict)
 
 -- a file that every job that may have been read keeps apart stays as it was
 input_kept : (old new : Told) (name file : List ℕ) (outcome : Outcome) → IsAnswer old new name outcome
     → ((job : Job) → IsJobRead old name job → (job.certificate ≢ file) × (job.output ≢ file)) → Keeps old new file
-input_kept old new name file (Repaired cost) answer apart =
-    let both = apart answer.job answer.read in
-    answer.done.others file (input_apart answer.job answer.text file both.0 both.1)
+input_kept old new name file (Repaired cost) answer apart = judged_kept old new name file (Repaired cost) answer apart
+input_kept old new name file (NeedsPadding path short) answer apart = judged_kept old new name file (NeedsPadding path short) answer apart
 input_kept old new name file (Input fault) answer apart = answer.done.others file tt
 input_kept old new name file (ReadFault other) answer apart = answer.nothing.contents file
 input_kept old new name file WriteFault answer apart = Fails-keeps old new answer.ready file (texts_apart old name file answer.ready answer.texts apart) answer.fails

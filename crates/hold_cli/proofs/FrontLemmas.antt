@@ -8,7 +8,7 @@ use Rattle.hold_cli.specs.JobForm.{IsJobText}
 use Rattle.hold_cli.proofs.JobFormLemmas.{IsJobText-unique}
 use Rattle.hold_netlist.specs.Design.{Design}
 use Rattle.hold_netlist.specs.CanonicalText.{canonical_text}
-use Rattle.hold_cli.specs.Front.{IsServed, HasText, IsTooLong, IsJobAt, HasNoJob, HasNoNetlist, IsTold, RefusesJob, RefusesNetlist, Refuses, IsFront}
+use Rattle.hold_cli.specs.Front.{IsBuilt, IsOnlyReading, HasText, IsTooLong, IsJobAt, HasNoJob, HasNoNetlist, IsTold, RefusesJob, RefusesNetlist, Refuses, IsFront}
 
 one_text : (told : Told) (file a b : List ℕ) → told.content file ≡ Some a → told.content file ≡ Some b → a ≡ b
 one_text told file a b first second = cc
@@ -30,18 +30,18 @@ none_or_job told name job none at =
     let same : at.text ≡ none.text = one_text told name at.text none.text at.has.content none.has.content in
     none.none job (subst (λ (t : List ℕ). IsJobText t name job) same at.says)
 
-none_or_netlist : (told : Told) (file : List ℕ) (netlist : Design) → HasNoNetlist told file → IsServed netlist → HasText told file (canonical_text netlist) → ⊥
-none_or_netlist told file netlist none served has =
-    none.none netlist served (one_text told file none.text (canonical_text netlist) none.has.content has.content)
+none_or_netlist : (told : Told) (job : Job) (netlist : Design) → HasNoNetlist told job → IsBuilt job netlist → HasText told job.netlist (canonical_text netlist) → ⊥
+none_or_netlist told job netlist none built has =
+    none.none (netlist, built, one_text told job.netlist none.text (canonical_text netlist) none.has.content has.content)
 
 -- a job that is refused is no job
 refused_or_job : (told : Told) (name : List ℕ) (fault : Fault) (job : Job) → RefusesJob told name fault → IsJobAt told name job → ⊥
 refused_or_job told name (TooLong file) job refuses at = long_or_held told name at.text refuses.0 at.has
 refused_or_job told name (NotBuilt file) job refuses at = none_or_job told name job refuses.0 at
 
-refused_or_netlist : (told : Told) (file : List ℕ) (fault : Fault) (netlist : Design) → RefusesNetlist told file fault → IsServed netlist → HasText told file (canonical_text netlist) → ⊥
-refused_or_netlist told name (TooLong file) netlist refuses served has = long_or_held told name (canonical_text netlist) refuses.0 has
-refused_or_netlist told name (NotBuilt file) netlist refuses served has = none_or_netlist told name netlist refuses.0 served has
+refused_or_netlist : (told : Told) (job : Job) (fault : Fault) (netlist : Design) → RefusesNetlist told job fault → IsBuilt job netlist → HasText told job.netlist (canonical_text netlist) → ⊥
+refused_or_netlist told job (TooLong file) netlist refuses built has = long_or_held told job.netlist (canonical_text netlist) refuses.0 has
+refused_or_netlist told job (NotBuilt file) netlist refuses built has = none_or_netlist told job netlist refuses.0 built has
 
 told_some : (told : Told) (file text : List ℕ) → told.content file ≡ Some text → IsSome (told.content file)
 told_some told file text is = rw is refl
@@ -50,9 +50,9 @@ refused_job_told : (told : Told) (name : List ℕ) (fault : Fault) → RefusesJo
 refused_job_told told name (TooLong file) refuses = told_some told name refuses.0.text refuses.0.content
 refused_job_told told name (NotBuilt file) refuses = told_some told name refuses.0.text refuses.0.has.content
 
-refused_netlist_told : (told : Told) (name : List ℕ) (fault : Fault) → RefusesNetlist told name fault → IsSome (told.content name)
-refused_netlist_told told name (TooLong file) refuses = told_some told name refuses.0.text refuses.0.content
-refused_netlist_told told name (NotBuilt file) refuses = told_some told name refuses.0.text refuses.0.has.content
+refused_netlist_told : (told : Told) (job : Job) (fault : Fault) → RefusesNetlist told job fault → IsSome (told.content job.netlist)
+refused_netlist_told told job (TooLong file) refuses = told_some told job.netlist refuses.0.text refuses.0.content
+refused_netlist_told told job (NotBuilt file) refuses = told_some told job.netlist refuses.0.text refuses.0.has.content
 
 -- what is refused was told
 pub refused_told : (told : Told) (name : List ℕ) (fault : Fault) → Refuses told name fault → IsTold told name
@@ -63,7 +63,7 @@ refused_told told name fault (inl refuses) = record {
 refused_told told name fault (inr found) = record {
   job = told_some told name found.1.text found.1.has.content;
   netlist = λ job at. subst (λ (j : Job). IsSome (told.content j.netlist)) (one_job_at told name found.0 job found.1 at)
-      (refused_netlist_told told found.0.netlist fault found.2);
+      (refused_netlist_told told found.0 fault found.2);
 }
 
 pub front_told : (told : Told) (name : List ℕ) (job : Job) (netlist : Design) → IsFront told name job netlist → IsTold told name
@@ -78,7 +78,7 @@ pub refused_or_front : (told : Told) (name : List ℕ) (fault : Fault) (job : Jo
 refused_or_front told name fault job netlist (inl refuses) front = refused_or_job told name fault job refuses front.at
 refused_or_front told name fault job netlist (inr found) front =
     let same : found.0 ≡ job = one_job_at told name found.0 job found.1 front.at in
-    refused_or_netlist told job.netlist fault netlist (subst (λ (j : Job). RefusesNetlist told j.netlist fault) same found.2) front.served front.text
+    refused_or_netlist told job fault netlist (subst (λ (j : Job). RefusesNetlist told j fault) same found.2) front.built front.text
 
 job_fault : (told : Told) (name : List ℕ) (a b : Fault) → RefusesJob told name a → RefusesJob told name b → a ≡ b
 job_fault told name (TooLong file) (TooLong other) first second = ap TooLong (first.1 ∙ sym second.1)
@@ -86,11 +86,11 @@ job_fault told name (NotBuilt file) (NotBuilt other) first second = ap NotBuilt 
 job_fault told name (TooLong file) (NotBuilt other) first second = absurd (long_or_held told name second.0.text first.0 second.0.has)
 job_fault told name (NotBuilt file) (TooLong other) first second = absurd (long_or_held told name first.0.text second.0 first.0.has)
 
-netlist_fault : (told : Told) (name : List ℕ) (a b : Fault) → RefusesNetlist told name a → RefusesNetlist told name b → a ≡ b
-netlist_fault told name (TooLong file) (TooLong other) first second = ap TooLong (first.1 ∙ sym second.1)
-netlist_fault told name (NotBuilt file) (NotBuilt other) first second = ap NotBuilt (first.1 ∙ sym second.1)
-netlist_fault told name (TooLong file) (NotBuilt other) first second = absurd (long_or_held told name second.0.text first.0 second.0.has)
-netlist_fault told name (NotBuilt file) (TooLong other) first second = absurd (long_or_held told name first.0.text second.0 first.0.has)
+netlist_fault : (told : Told) (job : Job) (a b : Fault) → RefusesNetlist told job a → RefusesNetlist told job b → a ≡ b
+netlist_fault told job (TooLong file) (TooLong other) first second = ap TooLong (first.1 ∙ sym second.1)
+netlist_fault told job (NotBuilt file) (NotBuilt other) first second = ap NotBuilt (first.1 ∙ sym second.1)
+netlist_fault told job (TooLong file) (NotBuilt other) first second = absurd (long_or_held told job.netlist second.0.text first.0 second.0.has)
+netlist_fault told job (NotBuilt file) (TooLong other) first second = absurd (long_or_held told job.netlist first.0.text second.0 first.0.has)
 
 -- there is one first fault
 pub one_fault : (told : Told) (name : List ℕ) (a b : Fault) → Refuses told name a → Refuses told name b → a ≡ b
@@ -98,5 +98,14 @@ one_fault told name a b (inl first) (inl second) = job_fault told name a b first
 one_fault told name a b (inl first) (inr found) = absurd (refused_or_job told name a found.0 first found.1)
 one_fault told name a b (inr found) (inl second) = absurd (refused_or_job told name b found.0 second found.1)
 one_fault told name a b (inr found) (inr other) =
-    netlist_fault told other.0.netlist a b
-    (subst (λ (j : Job). RefusesNetlist told j.netlist a) (one_job_at told name found.0 other.0 found.1 other.1) found.2) other.2
+    netlist_fault told other.0 a b
+    (subst (λ (j : Job). RefusesNetlist told j a) (one_job_at told name found.0 other.0 found.1 other.1) found.2) other.2
+
+-- the netlist that was read is the one that the files hold
+pub one_front : (told : Told) (name : List ℕ) (job read_job : Job) (netlist read : Design) → IsFront told name job netlist → IsFront told name read_job read
+    → IsOnlyReading read_job read → (read_job ≡ job) × (read ≡ netlist)
+one_front told name job read_job netlist read front now only =
+    let jobs : read_job ≡ job = one_job_at told name read_job job now.at front.at in
+    let built : IsBuilt read_job netlist = subst (λ (j : Job). IsBuilt j netlist) (sym jobs) front.built in
+    let text : HasText told read_job.netlist (canonical_text netlist) = subst (λ (j : Job). HasText told j.netlist (canonical_text netlist)) (sym jobs) front.text in
+    (jobs, only netlist built (one_text told read_job.netlist (canonical_text read) (canonical_text netlist) now.text.content text.content))

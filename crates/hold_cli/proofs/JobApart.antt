@@ -1,26 +1,13 @@
 -- A job writes two files, not one.
-use Rattle.std.proofs.Common.{◌≡◌, ◌≢◌, ℕ, List, Bool, true, false, not, ◌&&◌, ◌||◌, cond, Option, Some, None, refl, subst}
+use Rattle.std.proofs.Common.{◌≡◌, ◌≢◌, ℕ, List, Bool, true, false, not, ◌&&◌, ◌||◌, refl}
 use Rattle.std.specs.Prelude.{bytes_eq}
 use Rattle.std.proofs.lemmas.Slice.Eq.{bytes_eq-Decides}
 use Rattle.std.proofs.lemmas.Bool.Decides.{not_from_Decides}
-use Rattle.std.proofs.lemmas.Option.{same_Some}
 use Rattle.hold_cli.specs.declared.job_form.Job.{Job}
 use Rattle.hold_cli.specs.JobForm.{keeps_files, job_values, IsJobText}
 use Rattle.hold_cli.specs.JobFormKeys.{kept, has_only, keys_of}
 use Rattle.hold_cli.specs.declared.job_form.key.JobTable.TheVariants.{Job as JobKeys}
-
--- what is kept passed the test
-kept_passes : (test : Job → Bool) (o : Option Job) (job : Job) → kept test o ≡ Some job → test job ≡ true
-kept_passes test None job e = cc
-kept_passes test (Some x) job e = passed (test x) refl e
-  where
-    passed : (b : Bool) → test x ≡ b → cond b (Some x) None ≡ Some job → test job ≡ true
-    passed true is e = subst (λ (j : Job). test j ≡ true) (same_Some x job e) is
-    passed false is e = cc
-
-kept_given : (b : Bool) (o : Option Job) (job : Job) → cond b o None ≡ Some job → o ≡ Some job
-kept_given true o job e = e
-kept_given false o job e = cc
+use Rattle.hold_cli.proofs.JobFormKept.{kept_passes, kept_given}
 
 -- the files that keeps_files keeps apart
 pub record AreApart (own : List ℕ) (job : Job) : Type 0 where

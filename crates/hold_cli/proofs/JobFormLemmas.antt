@@ -8,6 +8,7 @@ use Rattle.std.proofs.lemmas.Option.{same_Some}
 use Rattle.hold_cli.specs.declared.job_form.Job.{Job}
 use Rattle.hold_cli.specs.JobForm.{job_of, IsJobText}
 use Rattle.hold_cli.specs.JobFormKeys.{is_one_of, has_only, only_item}
+use Rattle.hold_cli.specs.JobFormTimes.{span_between, span_in_pair}
 
 -- whether each of these texts is one of the keys
 abbrev pub are_all_of : List (List ℕ) → List (String Global) → Bool
@@ -27,6 +28,19 @@ pub only_item_other : (vs : List Value) → length vs ≢ 1 → None ≡ only_it
 only_item_other [] other = refl
 only_item_other (v ∷ []) other = absurd (other refl)
 only_item_other (v ∷ w ∷ vs) other = refl
+
+-- a pair is read by its two items
+pub pair_of_two : (vs : List Value) (d : Value) → length vs ≡ 2 → span_between (view (get_or vs 0 d)) (view (get_or vs 1 d)) ≡ span_in_pair (items_view vs)
+pair_of_two [] d two = absurd (omega arith)
+pair_of_two (v ∷ []) d two = absurd (omega arith)
+pair_of_two (v ∷ w ∷ []) d two = refl
+pair_of_two (v ∷ w ∷ x ∷ vs) d two = absurd (omega arith)
+
+pub pair_of_other : (vs : List Value) → length vs ≢ 2 → None ≡ span_in_pair (items_view vs)
+pair_of_other [] other = refl
+pair_of_other (v ∷ []) other = refl
+pair_of_other (v ∷ w ∷ []) other = absurd (other refl)
+pair_of_other (v ∷ w ∷ x ∷ vs) other = refl
 
 -- a text is one job at most
 pub IsJobText-unique : (text own : List ℕ) (a b : Job) → IsJobText text own a → IsJobText text own b → a ≡ b

@@ -8,10 +8,17 @@ pub mod CanonicalInsts
 pub mod CanonicalEnd
 pub mod CommandLemmas
 pub mod JobFormLemmas
+pub mod JobFormKept
+pub mod JobFormEach
+pub mod JobFormSets
 pub mod JobApart
+pub mod JobFormLimits
 pub mod TextsLemmas
 pub mod FrontLemmas
 pub mod FrontSteps
+pub mod PinTexts
 pub mod RepairTexts
 pub mod Answers
+pub mod Deliveries
+pub mod Verdicts
 pub mod Complete

@@ -1,26 +1,34 @@
 -- usage_line, refusal_line, repaired_line: what is said of an answer.
 -- whole_certificate: the certificate of a netlist that meets every check as it is: no buffer costs nothing, and one leaf proves that nothing costs less.
 -- only_line: an answer that writes no file.
--- repair_texts job netlist: what a repair without buffers writes: the certificate, the netlist's canonical text, and its line.
--- AreTexts told name ready: the texts are the line of a refusal, or those of a repair of the job that was read from the file `name`.
+-- repair_texts job text: what a repair without buffers writes: the certificate, the netlist's canonical text, and its line.
+-- IsVerdict job netlist outcome ready: what the job's checks of the netlist come to, and the texts of it: a repair at cost 0 where no path misses a
+--   check, else a path that misses one, with by how much.
+-- AreTexts told name ready: the texts are the line of a refusal, or those of a verdict on the job that was read from the file `name`.
 -- Comes told name outcome ready: the order of work on the job in the file `name` comes to this outcome over these contents, and has these texts
 --   ready. It never comes to a file that fails or to want of memory.
--- IsCalm old new name job: no read of the job or of its netlist failed, no write of one of its outputs, and no saying.
+-- IsCalm old new name job: no count rose of reads of the job or of its netlist, of writes of its outputs, nor of sayings.
 -- IsAnswer old new name outcome: the outcome is right for the repair of the job in the file `name`, begun over the old moment and ended at the new one.
---   IsRepaired: every text was written, and where the files were told, they are those of the job and its netlist. IsRefused: the line was said, and where the files were
---   told, that fault is the first refusal. IsUnread: a read of that file failed, which the work comes to, and nothing changed. IsUnwritten: another
+--   IsJudged: it is the verdict on the job and the one netlist that were read, each of its texts was written, and where the files were told, they hold that
+--   job and netlist. IsRefused: the line was said, and where the files were
+--   told, that fault is the first refusal. IsUnread: the count of failed reads of that file rose, which the work comes to, and nothing changed. IsUnwritten: another
 --   outcome had its texts ready, and one of them failed.
+-- IsRefusal, IsDelivery: what is right once a fault, or a job and its netlist, have been read: the outcome of that, or what may come in its place.
 use Rattle.std.specs.Prelude.{◌≡◌, ◌⊎◌, ℕ, List, [], ◌∷◌, ◌++◌, Some, codes}
 use Rattle.hold_files.specs.Told.{Told, Rose}
 use Rattle.hold_cli.specs.declared.job_form.Job.{Job}
 use Rattle.hold_cli.specs.declared.outcome.Fault.{Fault}
 use Rattle.hold_cli.specs.declared.outcome.Fault.TheVariants.{TooLong, NotBuilt}
 use Rattle.hold_cli.specs.declared.outcome.Outcome.{Outcome}
-use Rattle.hold_cli.specs.declared.outcome.Outcome.TheVariants.{Repaired, Input, ReadFault, WriteFault, Memory, Words}
-use Rattle.hold_cli.specs.Front.{IsJobAt, IsJobRead, IsServedText, named_by, ComesTo, IsTold, RefusesJob, Refuses, IsFront}
+use Rattle.hold_cli.specs.declared.outcome.Outcome.TheVariants.{Repaired, NeedsPadding, Input, ReadFault, WriteFault, Memory, Words}
+use Rattle.hold_cli.specs.Front.{IsJobAt, IsJobRead, IsBuilt, IsOnlyReading, named_by, ComesTo, IsTold, RefusesJob, Refuses, IsFront}
+use Rattle.hold_cli.specs.PaddingLine.{padding_line}
 use Rattle.hold_cli.specs.Texts.{Ready, IsDone, Fails, FailsInLine, SaysNothing}
 use Rattle.hold_netlist.specs.Design.{Design}
 use Rattle.hold_netlist.specs.CanonicalText.{canonical_text}
+use Rattle.hold_graph.specs.Sums.{no_buffers}
+use Rattle.hold_graph.specs.Met.{IsMet, Misses}
+use Rattle.hold_plain.specs.Problem.{problem_of}
 
 abbrev pub usage_line : List ℕ
 usage_line = codes "usage: hold repair JOB, check JOB, report JOB, apply JOB or trial N\n"
@@ -41,20 +49,34 @@ only_line line = record { files = []; line = line }
 abbrev pub repair_texts : Job → List ℕ → Ready
 repair_texts job text = record { files = (job.certificate, whole_certificate) ∷ (job.output, text) ∷ []; line = repaired_line }
 
--- the texts of a refusal, or of a repair of the job that was read
+-- what the checks come to
+abbrev pub IsVerdict : Job → Design → Outcome → Ready → Type 0
+IsVerdict job netlist (Repaired cost) ready =
+    (cost ≡ 0) × IsMet (problem_of job.timing netlist) no_buffers × (ready ≡ repair_texts job (canonical_text netlist))
+IsVerdict job netlist (NeedsPadding path short) ready =
+    Misses (problem_of job.timing netlist) no_buffers path short × (ready ≡ only_line (padding_line job netlist path short))
+IsVerdict job netlist (Input fault) ready = ⊥
+IsVerdict job netlist (ReadFault file) ready = ⊥
+IsVerdict job netlist WriteFault ready = ⊥
+IsVerdict job netlist Memory ready = ⊥
+IsVerdict job netlist Words ready = ⊥
+
+-- the texts of a refusal, or of a verdict on the job that was read
 abbrev pub AreTexts : Told → List ℕ → Ready → Type 0
 AreTexts told name ready =
     ((fault : Fault) × (ready ≡ only_line (refusal_line fault)))
-    ⊎ ((job : Job) × (text : List ℕ) × IsJobRead told name job × IsServedText text × (ready ≡ repair_texts job text))
+    ⊎ ((job : Job) × (netlist : Design) × (verdict : Outcome) × IsJobRead told name job × IsBuilt job netlist × IsVerdict job netlist verdict ready)
 
-pub record IsRepaired (old new : Told) (name : List ℕ) (cost : ℕ) : Type 0 where
+pub record IsJudged (old new : Told) (name : List ℕ) (outcome : Outcome) : Type 0 where
   pub job : Job
-  pub text : List ℕ
-  pub free : cost ≡ 0
+  pub netlist : Design
+  pub ready : Ready
   pub read : IsJobRead old name job
-  pub spelled : IsServedText text
-  pub done : IsDone old new (repair_texts job text)
-  pub front : IsTold old name → (netlist : Design) × IsFront old name job netlist × (text ≡ canonical_text netlist)
+  pub built : IsBuilt job netlist
+  pub only : IsOnlyReading job netlist
+  pub verdict : IsVerdict job netlist outcome ready
+  pub done : IsDone old new ready
+  pub front : IsTold old name → IsFront old name job netlist
 
 pub record IsRefused (old new : Told) (name : List ℕ) (fault : Fault) : Type 0 where
   pub refuses : IsTold old name → Refuses old name fault
@@ -67,10 +89,14 @@ pub record IsUnread (old new : Told) (name file : List ℕ) : Type 0 where
   pub comes : (text : List ℕ) → old.content name ≡ Some text → ComesTo old name file
   pub nothing : SaysNothing old new
 
+-- a verdict on what the files hold
+abbrev pub ComesToVerdict : Told → List ℕ → Outcome → Ready → Type 0
+ComesToVerdict told name outcome ready = (job : Job) × (netlist : Design) × IsFront told name job netlist × IsVerdict job netlist outcome ready
+
 abbrev pub Comes : Told → List ℕ → Outcome → Ready → Type 0
 Comes told name (Input fault) ready = Refuses told name fault × (ready ≡ only_line (refusal_line fault))
-Comes told name (Repaired cost) ready =
-    (job : Job) × (netlist : Design) × IsFront told name job netlist × (cost ≡ 0) × (ready ≡ repair_texts job (canonical_text netlist))
+Comes told name (Repaired cost) ready = ComesToVerdict told name (Repaired cost) ready
+Comes told name (NeedsPadding path short) ready = ComesToVerdict told name (NeedsPadding path short) ready
 Comes told name (ReadFault file) ready = ⊥
 Comes told name WriteFault ready = ⊥
 Comes told name Memory ready = ⊥
@@ -91,7 +117,8 @@ pub record IsUnwritten (old new : Told) (name : List ℕ) : Type 0 where
 
 -- what is right of each outcome
 abbrev pub IsAnswer : Told → Told → List ℕ → Outcome → Type 0
-IsAnswer old new name (Repaired cost) = IsRepaired old new name cost
+IsAnswer old new name (Repaired cost) = IsJudged old new name (Repaired cost)
+IsAnswer old new name (NeedsPadding path short) = IsJudged old new name (NeedsPadding path short)
 IsAnswer old new name (Input fault) = IsRefused old new name fault
 IsAnswer old new name (ReadFault file) = IsUnread old new name file
 IsAnswer old new name WriteFault = IsUnwritten old new name
@@ -104,14 +131,17 @@ IsRefusal old new fault (Input answered) = (answered ≡ fault) × IsDone old ne
 IsRefusal old new fault WriteFault = FailsInLine old new (only_line (refusal_line fault))
 IsRefusal old new fault Memory = old ≡ new
 IsRefusal old new fault (Repaired cost) = ⊥
+IsRefusal old new fault (NeedsPadding path short) = ⊥
 IsRefusal old new fault (ReadFault file) = ⊥
 IsRefusal old new fault Words = ⊥
 
--- what is right of a repair that is ready: it is answered, or one of its texts failed
-abbrev pub IsDelivery : Told → Told → Job → List ℕ → Outcome → Type 0
-IsDelivery old new job text (Repaired cost) = (cost ≡ 0) × IsDone old new (repair_texts job text)
-IsDelivery old new job text WriteFault = Fails old new (repair_texts job text)
-IsDelivery old new job text (Input fault) = ⊥
-IsDelivery old new job text (ReadFault file) = ⊥
-IsDelivery old new job text Memory = ⊥
-IsDelivery old new job text Words = ⊥
+-- what is right of a job and its netlist: the verdict is answered, one of its texts failed, or there was no memory for them
+abbrev pub IsDelivery : Told → Told → Job → Design → Outcome → Type 0
+IsDelivery old new job netlist (Repaired cost) = (ready : Ready) × IsVerdict job netlist (Repaired cost) ready × IsDone old new ready
+IsDelivery old new job netlist (NeedsPadding path short) =
+    (ready : Ready) × IsVerdict job netlist (NeedsPadding path short) ready × IsDone old new ready
+IsDelivery old new job netlist WriteFault = (verdict : Outcome) × (ready : Ready) × IsVerdict job netlist verdict ready × Fails old new ready
+IsDelivery old new job netlist Memory = old ≡ new
+IsDelivery old new job netlist (Input fault) = ⊥
+IsDelivery old new job netlist (ReadFault file) = ⊥
+IsDelivery old new job netlist Words = ⊥

@@ -1,20 +1,22 @@
 -- The order of work over a job, up to the point from which nothing is refused any more.
 --
 -- file_limit: how many bytes a job or a netlist may have, 2^26.
--- IsServed netlist: a valid netlist of the form that is served today: plain, and without instances.
--- IsServedText text: the canonical text of a netlist of the form that is served.
+-- IsBuilt job netlist: a valid netlist of the form that is served today: plain, and with a timing problem by what the job knows of time.
+-- IsOnlyReading job netlist: no other netlist that is served for the job has the same text.
+-- IsBuiltText job text: the canonical text of a netlist that is served for the job.
 -- HasText told file text: the content of the file is told, it is this text, and it is within the limit.
 -- IsTooLong told file: the content is told and passes the limit.
 -- IsJobAt told name job: the file `name` holds this job.
 -- ComesTo told name file: the work on the job in the file `name` reads `file`: that file itself, or the netlist of the job in it.
 -- IsTold told name: the content of each file that the work comes to is told.
--- IsJobRead told name job: the bytes that were read of the file `name` hold this job. Where the content of the file is told, these bytes are it.
+-- IsJobRead told name job: some bytes hold this job, and where the content of the file `name` is told, these bytes are it.
 -- named_by fault: the file that a refusal names.
--- HasNoJob, HasNoNetlist: the file is told and within the limit, and it is no job of the form, or no netlist of it.
+-- HasNoJob told name, HasNoNetlist told job: the file, or the job's netlist, is told and within the limit, and it is no job of the form, or no
+--   netlist that is served for the job.
 -- RefusesJob, RefusesNetlist: why that one file is refused. Refuses told name fault: the first refusal in the order of work: first the job's, then
 --   that of the netlist that the job names.
 -- IsFront told name job netlist: nothing is refused, and these are the job and the netlist.
-use Rattle.std.specs.Prelude.{◌≡◌, ◌⊎◌, ◌<◌, ◌≤◌, ℕ, List, [], length, Some, IsSome}
+use Rattle.std.specs.Prelude.{◌≡◌, ◌⊎◌, ◌<◌, ◌≤◌, ℕ, List, length, Some, IsSome}
 use Rattle.hold_files.specs.Told.{Told}
 use Rattle.hold_cli.specs.declared.job_form.Job.{Job}
 use Rattle.hold_cli.specs.declared.outcome.Fault.{Fault}
@@ -23,18 +25,22 @@ use Rattle.hold_cli.specs.JobForm.{IsJobText}
 use Rattle.hold_netlist.specs.Design.{Design}
 use Rattle.hold_netlist.specs.Valid.{IsValid}
 use Rattle.hold_netlist.specs.CanonicalText.{canonical_text}
+use Rattle.hold_plain.specs.Served.{IsServed}
 use Rattle.hold_cli.specs.CanonicalPlain.{IsPlain}
 
 abbrev pub file_limit : ℕ
 file_limit = 67108864
 
-pub record IsServed (netlist : Design) : Type 0 where
+pub record IsBuilt (job : Job) (netlist : Design) : Type 0 where
   pub valid : IsValid netlist
   pub plain : IsPlain netlist
-  pub bare : netlist.insts ≡ []
+  pub served : IsServed job.timing netlist
 
-abbrev pub IsServedText : List ℕ → Type 0
-IsServedText text = (netlist : Design) × IsServed netlist × (text ≡ canonical_text netlist)
+abbrev pub IsOnlyReading : Job → Design → Type 0
+IsOnlyReading job netlist = (other : Design) → IsBuilt job other → canonical_text netlist ≡ canonical_text other → netlist ≡ other
+
+abbrev pub IsBuiltText : Job → List ℕ → Type 0
+IsBuiltText job text = (netlist : Design) × IsBuilt job netlist × (text ≡ canonical_text netlist)
 
 pub record HasText (told : Told) (file text : List ℕ) : Type 0 where
   pub content : told.content file ≡ Some text
@@ -64,10 +70,10 @@ pub record HasNoJob (told : Told) (name : List ℕ) : Type 0 where
   pub has : HasText told name text
   pub none : (job : Job) → IsJobText text name job → ⊥
 
-pub record HasNoNetlist (told : Told) (file : List ℕ) : Type 0 where
+pub record HasNoNetlist (told : Told) (job : Job) : Type 0 where
   pub text : List ℕ
-  pub has : HasText told file text
-  pub none : (netlist : Design) → IsServed netlist → text ≡ canonical_text netlist → ⊥
+  pub has : HasText told job.netlist text
+  pub none : IsBuiltText job text → ⊥
 
 -- the first file, or the one that the job in it names
 abbrev pub ComesTo : Told → List ℕ → List ℕ → Type 0
@@ -82,15 +88,15 @@ abbrev pub RefusesJob : Told → List ℕ → Fault → Type 0
 RefusesJob told name (TooLong file) = IsTooLong told name × (file ≡ name)
 RefusesJob told name (NotBuilt file) = HasNoJob told name × (file ≡ name)
 
--- the netlist, which is named, is too long or of no form that is served
-abbrev pub RefusesNetlist : Told → List ℕ → Fault → Type 0
-RefusesNetlist told name (TooLong file) = IsTooLong told name × (file ≡ name)
-RefusesNetlist told name (NotBuilt file) = HasNoNetlist told name × (file ≡ name)
+-- the netlist of the job, which is named, is too long or isn't served for the job
+abbrev pub RefusesNetlist : Told → Job → Fault → Type 0
+RefusesNetlist told job (TooLong file) = IsTooLong told job.netlist × (file ≡ job.netlist)
+RefusesNetlist told job (NotBuilt file) = HasNoNetlist told job × (file ≡ job.netlist)
 
 abbrev pub Refuses : Told → List ℕ → Fault → Type 0
-Refuses told name fault = RefusesJob told name fault ⊎ ((job : Job) × IsJobAt told name job × RefusesNetlist told job.netlist fault)
+Refuses told name fault = RefusesJob told name fault ⊎ ((job : Job) × IsJobAt told name job × RefusesNetlist told job fault)
 
 pub record IsFront (told : Told) (name : List ℕ) (job : Job) (netlist : Design) : Type 0 where
   pub at : IsJobAt told name job
   pub text : HasText told job.netlist (canonical_text netlist)
-  pub served : IsServed netlist
+  pub built : IsBuilt job netlist

@@ -4,14 +4,14 @@
 -- kept test: the value where it passes the test, and nothing where it doesn't.
 -- JobTable: the sorts of tables that a job is made of; keys_of: the keys that each may have.
 -- has_only: whether each key of the members is one of the keys; members that are empty have only any keys.
--- text_at, integer_at, array_at, table_of: the value at a key, where it is there and is of that kind.
+-- text_at, integer_at, array_at: the value at a key, where it is there and is of that kind.
 -- only_item: the item of a list that has exactly one.
--- file_name_at: the text at a key, where it has 1 to 4,096 bytes.
--- is_visible: whether a byte is from 33 to 126, so prints and is no space.
-use Rattle.std.specs.Prelude.{ℕ, ℤ, List, [], ◌∷◌, length, codes, Bool, true, false, ◌&&◌, ◌||◌, nat_le, if◌then◌else◌, Option, Some, None, bytes_eq}
+-- each_of read items: what each item of a list gives, in order. Nothing where one of them gives nothing.
+-- each_at read key ms: the same of the list at a key; no item where the key is missing, and nothing where it holds something else.
+use Rattle.std.specs.Prelude.{ℕ, ℤ, List, [], ◌∷◌, codes, Bool, true, false, ◌&&◌, ◌||◌, if◌then◌else◌, Option, Some, None, bytes_eq}
 use Rattle.toml.specs.Data.{Members, no_members, member, get_member, as_str, as_integer, as_array, Data, Items, no_items, item}
 use Rattle.hold_cli.specs.declared.job_form.key.JobTable.{JobTable}
-use Rattle.hold_cli.specs.declared.job_form.key.JobTable.TheVariants.{Job, Corner}
+use Rattle.hold_cli.specs.declared.job_form.key.JobTable.TheVariants.{Job, Corner, Comb, Register, Arc, Check, Clock}
 
 infixl 10 ◌>>=◌
 abbrev pub ◌>>=◌ : {A B : Type 0} → Option A → (A → Option B) → Option B
@@ -26,9 +26,17 @@ abbrev pub is_one_of : List (List ℕ) → List ℕ → Bool
 is_one_of [] key = false
 is_one_of (k ∷ ks) key = bytes_eq key k || is_one_of ks key
 
+-- what a job says at `kind` and `max_chain` isn't looked at
 abbrev pub keys_of : JobTable → List (List ℕ)
-keys_of Job = codes "netlist" ∷ codes "output" ∷ codes "certificate" ∷ codes "period" ∷ codes "corner" ∷ []
+keys_of Job =
+    codes "netlist" ∷ codes "output" ∷ codes "certificate" ∷ codes "period" ∷ codes "max_chain"
+    ∷ codes "corner" ∷ codes "arrival" ∷ codes "type" ∷ codes "kind" ∷ codes "clock" ∷ []
 keys_of Corner = codes "name" ∷ []
+keys_of Comb = codes "name" ∷ codes "role" ∷ codes "inputs" ∷ codes "outputs" ∷ codes "arcs" ∷ []
+keys_of Register = codes "name" ∷ codes "role" ∷ codes "clock" ∷ codes "data" ∷ codes "outputs" ∷ codes "arcs" ∷ codes "checks" ∷ []
+keys_of Arc = codes "from" ∷ codes "to" ∷ codes "spans" ∷ []
+keys_of Check = codes "pin" ∷ codes "setup" ∷ codes "hold" ∷ []
+keys_of Clock = codes "inst" ∷ codes "arrivals" ∷ []
 
 abbrev pub has_only : List (List ℕ) → Members → Bool
 has_only keys no_members = true
@@ -47,11 +55,17 @@ abbrev pub only_item : Items → Option Data
 only_item (item d no_items) = Some d
 only_item _ = None
 
-abbrev pub is_file_name : List ℕ → Bool
-is_file_name text = nat_le 1 (length text) && nat_le (length text) 4096
+abbrev pub each_of : {A : Type 0} → (Data → Option A) → Items → Option (List A)
+each_of read no_items = Some []
+each_of read (item d ds) = do
+  x ← read d
+  xs ← each_of read ds
+  Some (x ∷ xs)
 
-abbrev pub file_name_at : List ℕ → Members → Option (List ℕ)
-file_name_at key ms = kept is_file_name (text_at key ms)
+-- the items of a list that may be left out
+abbrev pub items_or_none : Option Data → Option Items
+items_or_none None = Some no_items
+items_or_none (Some d) = as_array d
 
-abbrev pub is_visible : ℕ → Bool
-is_visible byte = nat_le 33 byte && nat_le byte 126
+abbrev pub each_at : {A : Type 0} → (Data → Option A) → List ℕ → Members → Option (List A)
+each_at read key ms = items_or_none (get_member key ms) >>= each_of read

@@ -6,6 +6,11 @@ pub mod Outcome
 pub mod Command
 pub mod JobForm
 pub mod JobFormKeys
+pub mod JobFormNames
+pub mod JobFormTimes
+pub mod JobFormCells
+pub mod JobFormClocks
 pub mod Front
+pub mod PaddingLine
 pub mod Texts
 pub mod Answer

@@ -1,9 +1,9 @@
 -- status_of: the exit status of an outcome. 0 says that the work was done, 3 that an input is refused, 4 that a file can't be
--- read, 5 that one can't be written, 6 want of memory and 7 that the words are no command.
+-- read, 5 that one can't be written, 6 want of memory, 7 that the words are no command, and 9 that a path needs padding.
 -- GivesUp: the outcome is one that may come in the place of any other: a file that fails, or want of memory.
 use Rattle.std.specs.Prelude.{ℕ}
 use Rattle.hold_cli.specs.declared.outcome.Outcome.{Outcome}
-use Rattle.hold_cli.specs.declared.outcome.Outcome.TheVariants.{Repaired, Input, ReadFault, WriteFault, Memory, Words}
+use Rattle.hold_cli.specs.declared.outcome.Outcome.TheVariants.{Repaired, NeedsPadding, Input, ReadFault, WriteFault, Memory, Words}
 
 -- the exit status
 abbrev pub status_of : Outcome → ℕ
@@ -13,6 +13,7 @@ status_of (ReadFault file) = 4
 status_of WriteFault = 5
 status_of Memory = 6
 status_of Words = 7
+status_of (NeedsPadding path short) = 9
 
 -- a file or the output failed, or memory ran out
 abbrev pub GivesUp : Outcome → Type 0
@@ -20,5 +21,6 @@ GivesUp (ReadFault file) = Unit {0}
 GivesUp WriteFault = Unit {0}
 GivesUp Memory = Unit {0}
 GivesUp (Repaired cost) = ⊥
+GivesUp (NeedsPadding path short) = ⊥
 GivesUp (Input fault) = ⊥
 GivesUp Words = ⊥

@@ -1,5 +1,5 @@
 //! `hold`: is to repair the hold violations of a netlist by delay buffers at the least cost. Today it serves
-//! netlists of ports and wires, which need no buffer.
+//! plain netlists in one corner, and repairs those that need no buffer.
 #![tactic(auto)]
 
 mod answer;
@@ -9,6 +9,7 @@ mod front;
 mod input;
 mod job_form;
 mod outcome;
+mod padding;
 mod top;
 
 use hold_base::{Memory, Name};

@@ -2,6 +2,7 @@ ghost use Rattle.std.specs.Prelude.{◌≡◌};
 ghost use Rattle.hold_cli.specs.Outcome.{status_of};
 
 use hold_base::Name;
+use hold_graph::Listed;
 use thiserror::Error;
 
 /// Why an input is refused.
@@ -20,6 +21,8 @@ pub enum Fault {
 pub enum Outcome {
     /// The netlist meets every check with buffers of this cost, and was written.
     Repaired { cost: u64 },
+    /// Without buffers this path misses its check by so much, in fs.
+    NeedsPadding { path: Listed, short: i64 },
     /// An input is refused.
     Input(Fault),
     /// The file of this name can't be read.
@@ -43,5 +46,6 @@ pub fn status(outcome: &Outcome) -> u8
         Outcome::WriteFault => 5,
         Outcome::Memory => 6,
         Outcome::Words => 7,
+        Outcome::NeedsPadding { path: _, short: _ } => 9,
     }
 }

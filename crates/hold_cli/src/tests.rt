@@ -1,3 +1,5 @@
+mod timed;
+
 use crate::outcome::{Fault, Outcome, status};
 use crate::top::run;
 use hold_base::{List, Memory, Name};
@@ -246,32 +248,41 @@ fn a_failed_output_or_line_leaves_the_certificate(rt: HostRuntime) -> Result<(),
     )
 }
 
+/// A run of which the read of this number fails, in a file of this name.
+fn read_fails(rt: &impl Abort, alloc: Global, read: u64, name: &[u8]) -> Result<(), Fail> {
+    let fails = fails_at(alloc, &[read], &[], &[], &[])?;
+    let ran = run_over(alloc, b"e.toml", JOB, NETLIST, 1000, fails)?;
+    assert_eq!(rt;
+        ran.outcome,
+        Outcome::ReadFault(Name::from_bytes(alloc, name)?)
+    );
+    assert_eq!(rt; ran.output.as_slice(), b"old".as_slice());
+    assert_eq!(rt; ran.said.as_slice(), b"".as_slice());
+    Ok(())
+}
+
 #[test]
 fn a_failed_read_names_its_file(rt: HostRuntime) -> Result<(), Fail> {
     let alloc = rt.alloc();
-    let first = run_over(
-        alloc,
-        b"e.toml",
-        JOB,
-        NETLIST,
-        1000,
-        fails_at(alloc, &[0], &[], &[], &[])?,
-    )?;
-    assert_eq!(rt;
-        first.outcome,
-        Outcome::ReadFault(Name::from_bytes(alloc, b"e.toml")?)
-    );
-    let second = run_over(
-        alloc,
-        b"e.toml",
-        JOB,
-        NETLIST,
-        1000,
-        fails_at(alloc, &[2], &[], &[], &[])?,
-    )?;
-    assert_eq!(rt;
-        second.outcome,
-        Outcome::ReadFault(Name::from_bytes(alloc, b"e.v")?)
-    );
+    read_fails(&rt, alloc, 0, b"e.toml")?;
+    read_fails(&rt, alloc, 1, b"e.toml")?;
+    read_fails(&rt, alloc, 2, b"e.v")?;
+    read_fails(&rt, alloc, 3, b"e.v")
+}
+
+/// A run whose line can't be said, and that writes nothing.
+fn line_fails(rt: &impl Abort, alloc: Global, name: &[u8], job: &[u8]) -> Result<(), Fail> {
+    let fails = fails_at(alloc, &[], &[], &[], &[0])?;
+    let ran = run_over(alloc, name, job, NETLIST, 1000, fails)?;
+    assert_eq!(rt; status(&ran.outcome), 5);
+    assert_eq!(rt; ran.certificate.as_slice(), b"old".as_slice());
+    assert_eq!(rt; ran.said.as_slice(), b"".as_slice());
     Ok(())
+}
+
+#[test]
+fn a_failed_line_is_a_write_fault(rt: HostRuntime) -> Result<(), Fail> {
+    let alloc = rt.alloc();
+    line_fails(&rt, alloc, b"", JOB)?;
+    line_fails(&rt, alloc, b"e.toml", b"netlist = ")
 }

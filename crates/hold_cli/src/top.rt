@@ -1,13 +1,20 @@
-ghost use Rattle.std.specs.Prelude.{◌≡◌, ◌≢◌, ◌⊎◌, ℕ, List, Some};
+ghost use Rattle.std.specs.Prelude.{◌≡◌, ◌≢◌, ◌⊎◌, ℕ, ℤ, List, Some};
 ghost use Rattle.hold_files.specs.Told.{Rose, Keeps, GoesOn};
 ghost use Rattle.hold_cli.specs.declared.outcome.Outcome.{Outcome as Answer};
 ghost use Rattle.hold_cli.specs.declared.outcome.Fault.{Fault as Refusal};
 ghost use Rattle.hold_cli.specs.Outcome.{GivesUp};
 ghost use Rattle.hold_cli.specs.Command.{IsRepair};
-ghost use Rattle.hold_cli.specs.Front.{IsJobAt, IsJobRead, IsServedText, named_by, ComesTo, IsTold, RefusesJob, Refuses, IsFront};
+ghost use Rattle.hold_cli.specs.Front.{IsJobAt, IsJobRead, IsBuilt, named_by, ComesTo, IsTold, RefusesJob, Refuses, IsFront};
 ghost use Rattle.hold_netlist.specs.Design.{Design};
 ghost use Rattle.hold_netlist.specs.CanonicalText.{canonical_text};
 ghost use Rattle.hold_cli.specs.declared.job_form.Job.{Job as JobData};
+ghost use Rattle.hold_graph.specs.declared.problem.Listed.{Listed as Path};
+ghost use Rattle.hold_graph.specs.Graph.{EndsOnce};
+ghost use Rattle.hold_graph.specs.Problem.{IsValid};
+ghost use Rattle.hold_graph.specs.Sums.{no_buffers};
+ghost use Rattle.hold_graph.specs.Met.{IsMet, Misses};
+ghost use Rattle.hold_plain.specs.Problem.{problem_of};
+ghost use Rattle.hold_cli.specs.PaddingLine.{padding_line};
 ghost use Rattle.hold_cli.specs.Answer.{usage_line, refusal_line, only_line, repair_texts, AreTexts, Comes, IsCalm, IsAnswer, IsRefusal, IsDelivery};
 ghost use Rattle.hold_cli.specs.Texts.{Ready, IsDone, Fails, FailsInLine, SaysNothing};
 
@@ -16,8 +23,10 @@ use crate::command::repair_job;
 use crate::front::{Front, read_front};
 use crate::input::Stopped;
 use crate::outcome::{Fault, Outcome};
+use crate::padding::padding_line;
 use hold_base::{Memory, Name};
 use hold_files::{Failed, Files};
+use hold_graph::{Listed, worst_line};
 use std::alloc::Global;
 
 /// Does the work that the words ask for, over these files, and says one line.
@@ -46,25 +55,48 @@ pub fn run<F: Files>(alloc: Global, words: &[Name], files: &mut F) -> Outcome
     ensures refusal { (fault : Refusal) → result ≡ Outcome.Input fault
         → IsDone (F.told files.old) (F.told files.new) (only_line (refusal_line fault)) }
 
-    // A repair: what is written, where nothing is refused.
+    // A repair: what is written, where nothing is refused and every path meets its checks.
     ensures repaired { (name : List ℕ) (cost : ℕ) → IsRepair words.now name
         → IsTold (F.told files.old) name
         → result ≡ Outcome.Repaired cost
         → (job : JobData) × (netlist : Design) × IsFront (F.told files.old) name job netlist × (cost ≡ 0)
+        × IsMet (problem_of job.timing netlist) no_buffers
         × IsDone (F.told files.old) (F.told files.new) (repair_texts job (canonical_text netlist)) }
     ensures repaired_texts { (name : List ℕ) (cost : ℕ) → IsRepair words.now name
         → result ≡ Outcome.Repaired cost
-        → (cost ≡ 0) × ((job : JobData) × (text : List ℕ) × IsJobRead (F.told files.old) name job
-        × IsServedText text × IsDone (F.told files.old) (F.told files.new) (repair_texts job text)) }
+        → (job : JobData) × (netlist : Design) × IsJobRead (F.told files.old) name job × IsBuilt job netlist × (cost ≡ 0)
+        × IsMet (problem_of job.timing netlist) no_buffers
+        × IsDone (F.told files.old) (F.told files.new) (repair_texts job (canonical_text netlist)) }
     ensures only_repaired { (name : List ℕ) (job : JobData) (netlist : Design)
         → IsRepair words.now name
         → IsFront (F.told files.old) name job netlist
+        → IsMet (problem_of job.timing netlist) no_buffers
         → (result ≡ Outcome.Repaired 0) ⊎ GivesUp result }
+
+    // A path that misses a check: it is said, and no file changes.
+    ensures needs_padding { (name : List ℕ) (path : Path) (short : ℤ) → IsRepair words.now name
+        → IsTold (F.told files.old) name
+        → result ≡ Outcome.NeedsPadding path short
+        → (job : JobData) × (netlist : Design) × IsFront (F.told files.old) name job netlist
+        × Misses (problem_of job.timing netlist) no_buffers path short
+        × IsDone (F.told files.old) (F.told files.new) (only_line (padding_line job netlist path short)) }
+    ensures padding_said { (name : List ℕ) (path : Path) (short : ℤ) → IsRepair words.now name
+        → result ≡ Outcome.NeedsPadding path short
+        → (job : JobData) × (netlist : Design) × IsJobRead (F.told files.old) name job × IsBuilt job netlist
+        × Misses (problem_of job.timing netlist) no_buffers path short
+        × IsDone (F.told files.old) (F.told files.new) (only_line (padding_line job netlist path short)) }
+    ensures only_needs_padding { (name : List ℕ) (job : JobData) (netlist : Design)
+        → IsRepair words.now name
+        → IsFront (F.told files.old) name job netlist
+        → (IsMet (problem_of job.timing netlist) no_buffers → ⊥)
+        → ((path : Path) × (short : ℤ) × (result ≡ Outcome.NeedsPadding path short)) ⊎ GivesUp result }
 
     ensures complete { (name : List ℕ) (job : JobData) (netlist : Design) → IsRepair words.now name
         → IsFront (F.told files.old) name job netlist
         → IsCalm (F.told files.old) (F.told files.new) name job
-        → (result ≡ Outcome.Repaired 0) ⊎ (result ≡ Outcome.Memory) }
+        → (result ≡ Outcome.Repaired 0)
+        ⊎ ((path : Path) × (short : ℤ) × (result ≡ Outcome.NeedsPadding path short))
+        ⊎ (result ≡ Outcome.Memory) }
 
     // A file that can't be read.
     ensures read_fault { (file : List ℕ) → result ≡ Outcome.ReadFault file
@@ -116,21 +148,62 @@ fn repair<F: Files>(alloc: Global, name: &Name, files: &mut F) -> Outcome
     ensures goes_on { GoesOn (F.told files.old) (F.told files.new) }
 {
     match read_front(alloc, files, name) {
-        Ok(front) => deliver(files, &front),
+        Ok(front) => deliver(alloc, files, &front),
         Err(Stopped::Read(file)) => Outcome::ReadFault(file),
         Err(Stopped::Refused(fault)) => refuse(alloc, files, fault),
         Err(Stopped::Memory) => Outcome::Memory,
     }
 }
 
-fn deliver<F: Files>(files: &mut F, front: &Front) -> Outcome
-    requires { front.now.job.certificate ≢ front.now.job.output }
-    ensures answer { IsDelivery (F.told files.old) (F.told files.new) front.now.job front.now.text.items result }
+/// Checks the netlist as it is, and answers what comes of that.
+fn deliver<F: Files>(alloc: Global, files: &mut F, front: &Front) -> Outcome
+    requires apart { front.now.job.certificate ≢ front.now.job.output }
+    requires spelled { front.now.built.text.items ≡ canonical_text front.now.built.netlist }
+    requires problem { front.now.built.problem ≡ problem_of front.now.job.timing front.now.built.netlist }
+    requires valid { IsValid front.now.built.problem }
+    requires once { EndsOnce front.now.built.problem.graph.arcs }
+    ensures answer { IsDelivery (F.told files.old) (F.told files.new) front.now.job front.now.built.netlist result }
     ensures goes_on { GoesOn (F.told files.old) (F.told files.new) }
 {
-    match write_repair(files, &front.job, front.text.as_slice()) {
+    match worst_line(alloc, &front.built.problem) {
+        Ok(None) => write_netlist(files, front),
+        Ok(Some((path, short))) => ask_padding(alloc, files, front, path, short),
+        Err(Memory) => Outcome::Memory,
+    }
+}
+
+/// Writes the netlist as it is, with its certificate.
+fn write_netlist<F: Files>(files: &mut F, front: &Front) -> Outcome
+    requires apart { front.now.job.certificate ≢ front.now.job.output }
+    requires spelled { front.now.built.text.items ≡ canonical_text front.now.built.netlist }
+    requires met { IsMet (problem_of front.now.job.timing front.now.built.netlist) no_buffers }
+    ensures answer { IsDelivery (F.told files.old) (F.told files.new) front.now.job front.now.built.netlist result }
+    ensures goes_on { GoesOn (F.told files.old) (F.told files.new) }
+{
+    match write_repair(files, &front.job, front.built.text.as_slice()) {
         Ok(()) => Outcome::Repaired { cost: 0 },
         Err(Failed) => Outcome::WriteFault,
+    }
+}
+
+/// Says the path that misses its check by so much.
+fn ask_padding<F: Files>(
+    alloc: Global,
+    files: &mut F,
+    front: &Front,
+    path: Listed,
+    short: i64,
+) -> Outcome
+    requires misses { Misses (problem_of front.now.job.timing front.now.built.netlist) no_buffers path short }
+    ensures answer { IsDelivery (F.told files.old) (F.told files.new) front.now.job front.now.built.netlist result }
+    ensures goes_on { GoesOn (F.told files.old) (F.told files.new) }
+{
+    match padding_line(alloc, &front.job, &front.built.netlist, &path, short) {
+        Ok(line) => match say_line(files, line.as_slice()) {
+            Ok(()) => Outcome::NeedsPadding { path, short },
+            Err(Failed) => Outcome::WriteFault,
+        },
+        Err(Memory) => Outcome::Memory,
     }
 }
 

@@ -1,6 +1,6 @@
 -- capture_at parts spans pin: when the clock arrives at a capture; the hull where the pin is listed more than once, and
 --   0 to 0 where it is none. setup_at and hold_at: its greatest setup and hold, and 0 where it is none.
--- early_excess problem spans buffers path: how much later than hold allows the path's earliest signal comes. Below 0 by
+-- early_excess problem spans buffers path: how much later than hold asks the path's earliest signal comes. Below 0 by
 --   as much as it comes too early.
 -- late_excess problem spans buffers path: how much earlier than setup asks the path's latest signal comes. Below 0 by as
 --   much as it comes too late.

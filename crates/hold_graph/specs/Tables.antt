@@ -1,5 +1,5 @@
--- AreTablesOf side parts spans line tables: what the tables of one side of a corner hold, how long they are, and how large
---   their numbers get.
+-- AreSized line tables: there is a number, or none, for each pin and each arc, and the numbers are in their limits.
+-- AreTablesOf side parts spans line tables: what the tables of one side of a corner hold.
 use Rattle.std.specs.Prelude.{◌≡◌, length, map, All}
 use Rattle.hold_base.specs.declared.time.Side.{Side}
 use Rattle.hold_graph.specs.declared.graph.Parts.{Parts}
@@ -9,7 +9,6 @@ use Rattle.hold_graph.specs.declared.tables.Tables.{Tables}
 use Rattle.hold_graph.specs.Problem.{IsWithin, launch_limit}
 use Rattle.hold_graph.specs.Arrival.{weight, sum_limit, AreWithin, AreTables}
 
--- there is a number, or none, for each pin, and the numbers are in their limits
 pub record AreSized (line : Ordered) (tables : Tables) : Type 0 where
   pub steps_each : length tables.steps.items ≡ length line.arcs.now
   pub starts_each : length tables.starts.items ≡ line.pins

@@ -1,15 +1,11 @@
 //! Values of a table by their keys.
-ghost use Rattle.std.specs.Prelude.{◌≡◌, ℤ, option_map, option_copied};
-ghost use Rattle.std.specs.List.{list_all};
+ghost use Rattle.std.specs.Prelude.{◌≡◌, option_map, option_copied};
 ghost use Rattle.toml.specs.Data.{get_member};
 ghost use Rattle.toml.specs.View.{view, table_view, array_view};
-ghost use Rattle.hold_cli.specs.JobFormKeys.{text_at, integer_at, array_at, file_name_at, is_file_name, is_visible, only_item};
+ghost use Rattle.hold_cli.specs.JobFormKeys.{text_at, integer_at, array_at, only_item};
 
 use toml::value::Array;
 use toml::{Table, Value};
-
-/// The longest name of a file, in bytes.
-const FILE_NAME_LIMIT: usize = 4096;
 
 /// The value at a key.
 pub fn value_at<'a>(table: &'a Table, key: &str) -> Option<&'a Value>
@@ -49,23 +45,6 @@ pub fn array_at<'a>(table: &'a Table, key: &str) -> Option<&'a Array>
         Some(value) => value.as_array(),
         None => None,
     }
-}
-
-/// The name of a file at a key, if the key holds a text of a length that such a name may have.
-pub fn file_name_at<'a>(table: &'a Table, key: &str) -> Option<&'a [u8]>
-    ensures { option_copied result ≡ file_name_at key.now (table_view table.now) }
-{
-    match text_at(table, key) {
-        Some(name) if !name.is_empty() && name.len() <= FILE_NAME_LIMIT => Some(name),
-        _ => None,
-    }
-}
-
-/// Whether each byte prints and is no space.
-pub fn is_visible(text: &[u8]) -> bool
-    ensures { result ≡ list_all is_visible text.now }
-{
-    text.iter().all(|byte| 33 <= *byte && *byte <= 126)
 }
 
 /// The item of a list that has exactly one.

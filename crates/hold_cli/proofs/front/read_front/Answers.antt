@@ -6,8 +6,8 @@ use Rattle.hold_cli.proofs.front.read_front.Goals as goal
 
 pub returns-in-Ok-clause-found : goal.returns-in-Ok-clause-found
 returns-in-Ok-clause-found g c =
-    netlist_found (g.F.Files.told c.args.files.now) (g.F.Files.told c.read_job.new.files) c.args.name.now c.in_ok-job.job c.in-Ok.text.items
-    c.read_job.ensures.stays c.in_ok-job.ensures.at c.in-Ok.ensures.found
+    netlist_found (g.F.Files.told c.args.files.now) (g.F.Files.told c.read_job.new.files) c.args.name.now c.in_ok-job.job c.in-Ok.built.netlist
+    c.read_job.ensures.stays c.in_ok-job.ensures.at c.in-Ok.ensures.found c.in-Ok.ensures.built
 
 pub returns-in-Ok-clause-stays : goal.returns-in-Ok-clause-stays
 returns-in-Ok-clause-stays g c =

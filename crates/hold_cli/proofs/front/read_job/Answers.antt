@@ -15,3 +15,6 @@ returns-clause-refused g c = λ fault is.
     subst (λ (t : List ℕ). (job : JobData) → IsJobText t c.args.name.now job → ⊥) c.as_slice.ensures.value (c.in_ok-found.ensures.none (ap Ok c.in-None.is)) in
     not_a_job (g.F.Files.told c.args.files.now) c.args.name.now c.in_ok-text.text.items c.args.name.now fault same refl
     within none c.in_ok-text.ensures.whole
+
+pub returns-in-Some-clause-limits : goal.returns-in-Some-clause-limits
+returns-in-Some-clause-limits g c = c.in_ok-found.ensures.limits c.in-Some.job (ap Ok c.in-Some.is)

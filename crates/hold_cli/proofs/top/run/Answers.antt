@@ -1,4 +1,5 @@
-use Rattle.hold_cli.proofs.Answers.{only_refused, only_repaired, job_stays, netlist_stays}
+use Rattle.hold_cli.proofs.Answers.{only_refused, job_stays, netlist_stays}
+use Rattle.hold_cli.proofs.Verdicts.{repaired, repaired_texts, only_repaired, needs_padding, padding_said, only_needs_padding}
 use Rattle.hold_cli.proofs.Complete.{complete}
 use Rattle.hold_cli.proofs.top.run.Goals as goal
 
@@ -7,10 +8,35 @@ returns-in-Some-clause-only_refused g c = λ name fault repair refuses.
     only_refused (g.F.Files.told c.args.files.now) (g.F.Files.told c.repair.new.files) c.args.words.now c.in-Some.name.now name fault c.repair.result
     c.in-Some.ensures.found c.repair.ensures.answer repair refuses
 
+pub returns-in-Some-clause-repaired : goal.returns-in-Some-clause-repaired
+returns-in-Some-clause-repaired g c =
+    repaired (g.F.Files.told c.args.files.now) (g.F.Files.told c.repair.new.files) c.args.words.now c.in-Some.name.now c.repair.result
+    c.in-Some.ensures.found c.repair.ensures.answer
+
+pub returns-in-Some-clause-repaired_texts : goal.returns-in-Some-clause-repaired_texts
+returns-in-Some-clause-repaired_texts g c =
+    repaired_texts (g.F.Files.told c.args.files.now) (g.F.Files.told c.repair.new.files) c.args.words.now c.in-Some.name.now c.repair.result
+    c.in-Some.ensures.found c.repair.ensures.answer
+
 pub returns-in-Some-clause-only_repaired : goal.returns-in-Some-clause-only_repaired
-returns-in-Some-clause-only_repaired g c = λ name job netlist repair front.
-    only_repaired (g.F.Files.told c.args.files.now) (g.F.Files.told c.repair.new.files) c.args.words.now c.in-Some.name.now name job netlist c.repair.result
-    c.in-Some.ensures.found c.repair.ensures.answer repair front
+returns-in-Some-clause-only_repaired g c =
+    only_repaired (g.F.Files.told c.args.files.now) (g.F.Files.told c.repair.new.files) c.args.words.now c.in-Some.name.now c.repair.result
+    c.in-Some.ensures.found c.repair.ensures.answer
+
+pub returns-in-Some-clause-needs_padding : goal.returns-in-Some-clause-needs_padding
+returns-in-Some-clause-needs_padding g c =
+    needs_padding (g.F.Files.told c.args.files.now) (g.F.Files.told c.repair.new.files) c.args.words.now c.in-Some.name.now c.repair.result
+    c.in-Some.ensures.found c.repair.ensures.answer
+
+pub returns-in-Some-clause-padding_said : goal.returns-in-Some-clause-padding_said
+returns-in-Some-clause-padding_said g c =
+    padding_said (g.F.Files.told c.args.files.now) (g.F.Files.told c.repair.new.files) c.args.words.now c.in-Some.name.now c.repair.result
+    c.in-Some.ensures.found c.repair.ensures.answer
+
+pub returns-in-Some-clause-only_needs_padding : goal.returns-in-Some-clause-only_needs_padding
+returns-in-Some-clause-only_needs_padding g c =
+    only_needs_padding (g.F.Files.told c.args.files.now) (g.F.Files.told c.repair.new.files) c.args.words.now c.in-Some.name.now c.repair.result
+    c.in-Some.ensures.found c.repair.ensures.answer
 
 pub returns-in-Some-clause-job_stays : goal.returns-in-Some-clause-job_stays
 returns-in-Some-clause-job_stays g c = λ name repair.

@@ -1,0 +1,71 @@
+-- driven u: the net that the pin drives: outputs of instances and input ports drive the net that they are tied to. Other pins, and
+--   outputs that are tied to nothing, drive none.
+-- fed u: the number of the combinational instance that the pin, a connected input of it, leads into. Other pins lead into none.
+-- OneEach keys: no key stands at two places.
+-- place_of key keys: the first place at which the key stands, none where it stands nowhere.
+-- HoldsPlaces bound keys table: each key is below the bound, and the table has, by key, the first place at which it stands.
+-- ArePlaces uses drivers feeders: by net the place of the pin that drives it, and by instance that of the connected input that leads
+--   into it.
+use Rattle.std.specs.Prelude.{◌≡◌, ℕ, ◌+◌, ◌==◌, List, [], ◌∷◌, map, Option, Some, None, slice_get, slice_index_or, length, ◌<◌, Bool, false, if◌then◌else◌}
+use Rattle.hold_netlist.specs.declared.inst.Source.{Source}
+use Rattle.hold_netlist.specs.declared.inst.Source.TheVariants.{Net, Zero, One, Empty}
+use Rattle.hold_plain.specs.declared.pin_use.PinUse.{PinUse}
+use Rattle.hold_plain.specs.declared.pin_use.PinRole.{PinRole}
+use Rattle.hold_plain.specs.declared.pin_use.PinRole.TheVariants.{Input, Output, Clock, Data, Launch, InPort, OutPort, Stray}
+use Rattle.hold_plain.specs.PinUses.{is_tied}
+
+-- the net that a source names
+abbrev pub net_of : Source → Option ℕ
+net_of (Net n) = Some n.0
+net_of Zero = None
+net_of One = None
+net_of Empty = None
+
+abbrev pub driven_as : PinRole → Source → Option ℕ
+driven_as Output source = net_of source
+driven_as Launch source = net_of source
+driven_as InPort source = net_of source
+driven_as Input source = None
+driven_as Clock source = None
+driven_as Data source = None
+driven_as OutPort source = None
+driven_as Stray source = None
+
+abbrev pub driven : PinUse → Option ℕ
+driven u = driven_as u.role u.source
+
+abbrev pub fed_as : PinRole → Source → ℕ → Option ℕ
+fed_as Input source inst = if is_tied source then Some inst else None
+fed_as Output source inst = None
+fed_as Clock source inst = None
+fed_as Data source inst = None
+fed_as Launch source inst = None
+fed_as InPort source inst = None
+fed_as OutPort source inst = None
+fed_as Stray source inst = None
+
+abbrev pub fed : PinUse → Option ℕ
+fed u = fed_as u.role u.source u.inst
+
+abbrev pub OneEach : List (Option ℕ) → Type 0
+OneEach keys = (i j key : ℕ) → slice_get keys i ≡ Some (Some key) → slice_get keys j ≡ Some (Some key) → i ≡ j
+
+abbrev pub is_key : ℕ → Option ℕ → Bool
+is_key key None = false
+is_key key (Some k) = key == k
+
+abbrev pub place_from : ℕ → ℕ → List (Option ℕ) → Option ℕ
+place_from place key [] = None
+place_from place key (k ∷ keys) = if is_key key k then Some place else place_from (place + 1) key keys
+
+abbrev pub place_of : ℕ → List (Option ℕ) → Option ℕ
+place_of key keys = place_from 0 key keys
+
+pub record HoldsPlaces (bound : ℕ) (keys table : List (Option ℕ)) : Type 0 where
+  pub below : (place key : ℕ) → slice_get keys place ≡ Some (Some key) → key < bound
+  pub each : length table ≡ bound
+  pub places : (key : ℕ) → slice_index_or table key None ≡ place_of key keys
+
+pub record ArePlaces (nets insts : ℕ) (uses : List PinUse) (drivers feeders : List (Option ℕ)) : Type 0 where
+  pub drives : HoldsPlaces nets (map driven uses) drivers
+  pub feeds : HoldsPlaces insts (map fed uses) feeders

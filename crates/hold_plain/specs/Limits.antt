@@ -1,0 +1,32 @@
+-- IsTimed u: the delay, the check and the arrival of a pin, where it has them, are within the limit of 10 us, and spans have their ends in order.
+-- KeepsLimits timing: the same of all that is known of time; the period is from 1 fs to 10 us.
+use Rattle.std.specs.Prelude.{All, Option, Some, None, pos, ◌≤ℤ◌}
+use Rattle.hold_graph.specs.Problem.{IsSpan, IsWithin, time_limit}
+use Rattle.hold_plain.specs.declared.cell.Cell.{Cell}
+use Rattle.hold_plain.specs.declared.cell.Check.{Check}
+use Rattle.hold_plain.specs.declared.timing.Timing.{Timing}
+use Rattle.hold_plain.specs.declared.pin_use.PinUse.{PinUse}
+
+pub record IsCheckInLimit (check : Check) : Type 0 where
+  pub setup : IsWithin time_limit check.setup
+  pub hold : IsWithin time_limit check.hold
+
+abbrev pub IfKnown : {A : Type 0} → (A → Type 0) → Option A → Type 0
+IfKnown P None = Unit {0}
+IfKnown P (Some a) = P a
+
+pub record IsTimed (u : PinUse) : Type 0 where
+  pub delay : IfKnown (IsSpan time_limit) u.delay
+  pub check : IfKnown IsCheckInLimit u.check
+  pub arrival : IfKnown (IsSpan time_limit) u.arrival
+
+pub record KeepsCellLimits (cell : Cell) : Type 0 where
+  pub arcs : All (λ arc. IsSpan time_limit arc.span) cell.arcs
+  pub checks : All (λ entry. IsCheckInLimit entry.check) cell.checks
+
+pub record KeepsLimits (timing : Timing) : Type 0 where
+  pub period_least : pos 1 ≤ℤ timing.period
+  pub period_greatest : timing.period ≤ℤ pos time_limit
+  pub arrival : IfKnown (IsSpan time_limit) timing.arrival
+  pub cells : All KeepsCellLimits timing.cells
+  pub clocks : All (λ clock. IsSpan time_limit clock.arrival) timing.clocks
