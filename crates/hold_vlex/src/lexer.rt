@@ -37,6 +37,16 @@ impl<'a> Lexer<'a> {
         Lexer { text, place: 0 }
     }
 
+    /// A lexer that reads on from the same place. Takes no memory.
+    pub fn fork(&self) -> Lexer<'a>
+        ensures { result ≡ self.now }
+    {
+        Lexer {
+            text: self.text,
+            place: self.place,
+        }
+    }
+
     /// The next token, or None at the end. A fault is the first one in the text, and is answered again by each
     /// later call. Takes no memory.
     pub fn next(&mut self) -> Result<Option<Token<'a>>, LexFault>

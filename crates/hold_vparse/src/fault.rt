@@ -1,0 +1,34 @@
+use hold_base::{Name, What};
+use hold_vlex::LexFault;
+use thiserror::Error;
+
+/// Why a text has no netlist. Places count bytes from 0. The variants stand in the order in which they are
+/// looked for.
+#[derive(Debug, Drop, Error)]
+pub enum VerilogFault {
+    /// The text has no tokens from some place on.
+    #[error("a text that can't be cut into tokens")]
+    Lex(LexFault),
+    /// The piece that begins at this place can't stand there, or the text ends at this place too early.
+    #[error("a piece that can't stand there")]
+    Syntax(u64),
+    /// The piece that can't stand where it stands has this word, at this place, which the profile leaves out.
+    #[error("a word that is left out")]
+    LeftOut(Name, u64),
+    /// This name is declared twice, or one instance names this pin twice.
+    #[error("a name that is declared twice")]
+    DoubleName(Name),
+    /// This port has no direction, or two ranges, or is in no list of ports.
+    #[error("a port that isn't declared whole")]
+    BadPort(Name),
+    /// A bit or part of this net isn't there, or is too wide or too narrow where it stands.
+    #[error("a bit that isn't there")]
+    BadBit(Name),
+    /// A bound or a count passes its limit.
+    #[error("the netlist is too large")]
+    Limit(What),
+}
+
+/// A piece that can't stand where it stands.
+#[derive(Clone, Copy, Debug)]
+pub struct BadPiece;

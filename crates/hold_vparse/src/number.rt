@@ -1,0 +1,78 @@
+ghost use Rattle.std.specs.Prelude.{◌≡◌, ◌≤◌, IfOk, IfSome, IfNone};
+ghost use Rattle.hold_vparse.specs.Number.{number_of};
+
+use hold_base::{List, Memory};
+use std::alloc::Global;
+use std::marker::Model;
+
+/// A number of any length, as decimal digits write it. A contract sees the number.
+#[derive(Drop)]
+pub struct Number {
+    kept: Kept,
+}
+
+/// How a number is kept: one below 2^32, as most are, takes no memory of its own.
+#[derive(Drop)]
+enum Kept {
+    Small(u32),
+    Digits(List<u8>),
+}
+
+impl Model for Number {
+    ghost use Rattle.std.specs.Prelude.{ℕ};
+    ghost use Rattle.std.specs.Coded.{coded_ℕ};
+    ghost use Rattle.hold_vparse.specs.Number.{value_of, IsKept};
+
+    ghost Value = { ℕ };
+
+    ghost coded = { coded_ℕ };
+
+    ghost view = { λ n. value_of n.kept };
+
+    ghost invariant = { λ n. IsKept n.kept };
+}
+
+impl Number {
+    /// The number that these digits write.
+    pub fn from_digits(alloc: Global, digits: &[u8]) -> Result<Number, Memory>
+        ensures { IfOk result (λ number. number ≡ number_of digits.now) }
+    {
+        match small(digits) {
+            Some(n) => Ok(Number {
+                kept: Kept::Small(n),
+            }),
+            None => {
+                let digits = Vec::from_slice(alloc, digits)?;
+                Ok(Number {
+                    kept: Kept::Digits(List::from_vec(digits)),
+                })
+            }
+        }
+    }
+
+    /// The number, where it is below 2^32.
+    pub fn small(&self) -> Option<u32>
+        ensures some { IfSome result (λ n. n ≡ self.now) }
+        ensures none { IfNone result (4294967296 ≤ self.now) }
+    {
+        match &self.kept {
+            Kept::Small(n) => Some(*n),
+            Kept::Digits(_) => None,
+        }
+    }
+}
+
+/// The number that these digits write, where it is below 2^32.
+fn small(digits: &[u8]) -> Option<u32>
+    ensures some { IfSome result (λ n. n ≡ number_of digits.now) }
+    ensures none { IfNone result (4294967296 ≤ number_of digits.now) }
+{
+    let mut number = 0;
+    for digit in digits {
+        number = number * 10 + u64::from(digit.saturating_sub(b'0'));
+        if number > u64::from(u32::MAX) {
+            return None;
+        }
+    }
+    Some(number as u32)
+}
