@@ -1,6 +1,6 @@
 -- Tables from names to numbers: what the entries of a map say of the pairs that a contract sees.
 use Rattle.std.proofs.Common.{◌≡◌, ℕ, List, [], ◌∷◌, ◌++◌, Bool, true, false, cond, refl, ap, ◌∙◌, bytes_eq, is_some, is_none, not}
-use Rattle.std.specs.Prelude.{Vec, Option, None, Some, ◌||◌}
+use Rattle.std.specs.Prelude.{Vec, Option, None, Some, Result, Ok, Err, OnErr, ◌||◌}
 use Rattle.std.specs.declared.alloc.Global.{Global}
 use Rattle.std.specs.Map.{lookup}
 use Rattle.indexmap.specs.IndexMap.{insert_entry}
@@ -41,6 +41,11 @@ is_none_number name pairs = ap not (is_some_number name pairs)
 pub none_of : (o : Option ℕ) → false ≡ is_some o → o ≡ None
 none_of None h = refl
 none_of (Some n) h = cc
+
+-- what is so of a table is so where a call was refused
+pub on_refusal : {X E P : Type 0} (r : Result X E) → P → OnErr r P
+on_refusal (Ok x) p = record {}
+on_refusal (Err e) p = p
 
 -- what stands in the table once a new name was put into its map
 pub added_pair : (old new : List (Vec ℕ Global × ℕ)) (name : List ℕ) (pairs : List (List ℕ × ℕ)) (k : Vec ℕ Global) (n : ℕ)

@@ -1,4 +1,4 @@
-ghost use Rattle.std.specs.Prelude.{◌≡◌, ◌++◌, ◌∷◌, [], is_none, IfOk, OnErr, if◌then◌else◌};
+ghost use Rattle.std.specs.Prelude.{◌≡◌, ◌++◌, ◌∷◌, [], is_none, None, IfOk, OnErr, if◌then◌else◌};
 ghost use Rattle.hold_netlist.specs.NameTable.{number_of};
 
 use hold_base::Memory;
@@ -38,11 +38,13 @@ impl NameTable {
         self.numbers.get(name).copied()
     }
 
-    /// Gives a name its number, where it has none yet, and answers whether that was so.
+    /// Gives a name its number, where it has none yet, and answers whether that was so. A name that has one
+    /// takes no memory.
     pub fn add(&mut self, alloc: Global, name: &[u8], number: u32) -> Result<bool, Memory>
         ensures new { IfOk result (λ is_new. is_new ≡ is_none (number_of name.now self.old)) }
         ensures added { IfOk result (λ is_new. self.new ≡ (if is_new then self.old ++ (name.now, number) ∷ [] else self.old)) }
         ensures refused { OnErr result (self.new ≡ self.old) }
+        ensures known { OnErr result (number_of name.now self.old ≡ None) }
     {
         if self.numbers.contains_key(name) {
             return Ok(false);
