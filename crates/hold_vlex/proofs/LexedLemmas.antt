@@ -36,7 +36,7 @@ lexed_by-after at len (Bad n) g h w e = refl
 lexed_by-after at len NoEnd g h w e = refl
 lexed_by-after at len NoName g h w e = refl
 
-lexed_from-front : (at : ℕ) (text : List ℕ) → lexed_from 0 at text ≡ lexed_by at (front text) (λ n. lexed_from 0 (at + n) (drop n text))
+pub lexed_from-front : (at : ℕ) (text : List ℕ) → lexed_from 0 at text ≡ lexed_by at (front text) (λ n. lexed_from 0 (at + n) (drop n text))
 unfolding lexed_from front
 lexed_from-front at [] = refl
 lexed_from-front at (b ∷ bs) = lexed_by-after at _ (front (b ∷ bs)) _ _ (front_within (b ∷ bs)) (λ n h. after-whole n at b bs h)

@@ -11,6 +11,7 @@ use Rattle.hold_vparse.specs.declared.tree.Instance.{Instance}
 use Rattle.hold_vparse.specs.Symbols.{Symbol, Marked, Named, Counted}
 use Rattle.hold_vparse.specs.Grammar.{separated, listed, tied_symbols, connection_symbols, instance_symbols}
 use Rattle.hold_vparse.specs.Reading.{with_front, begins, after, more_of, ident_at, number_at, constant_at, bit_after, tied_net_at, tied_by, tied_at, connection_at, connections_at, instance_at}
+use Rattle.hold_vparse.proofs.HeaderLaws.{closed}
 use Rattle.hold_vparse.proofs.ReadingLemmas.{bind_ok, cond_ok, ends, begins_is, after_ok, number_ok, ident_ok, constant_ok, Spells, more_sound, more_complete, front_ok, shrinks, Shrinks}
 
 bit_sound : (name : Ident) (ss : List Symbol) (t : Tied) (rest : List Symbol) → bit_after name ss ≡ Some (t, rest)
@@ -57,10 +58,6 @@ tied_complete (Net name) rest = refl
 tied_complete (BitOf name index) rest = refl
 tied_complete (Constant b) rest = refl
 
--- what stands within parentheses, and behind them
-closing : (a rest : List Symbol) → (a ++ Marked RightParenthesis ∷ []) ++ rest ≡ a ++ Marked RightParenthesis ∷ rest
-closing a rest = append_assoc a (Marked RightParenthesis ∷ []) rest
-
 connection_sound : (ss : List Symbol) (c : Connection) (rest : List Symbol) → connection_at ss ≡ Some (c, rest) → ss ≡ connection_symbols c ++ rest
 unfolding connection_at
 connection_sound ss c rest h =
@@ -74,14 +71,14 @@ connection_sound ss c rest h =
     let third = after_ok LeftParenthesis pin.0.1 inside.0 inside.1 in
     let front : ss ≡ Marked Dot ∷ Named pin.0.0 ∷ Marked LeftParenthesis ∷ inside.0 = cc in
     let back = tied_sound inside.0 tied.0.0 tied.0.1 tied.1 ∙ ap (λ l. tied_symbols tied.0.0 ++ l) (after_ok RightParenthesis tied.0.1 end.0 end.1)
-    ∙ sym (closing (tied_symbols tied.0.0) end.0) in
+    ∙ sym (closed (tied_symbols tied.0.0) (Marked RightParenthesis) end.0) in
     front ∙ ap (λ l. Marked Dot ∷ Named pin.0.0 ∷ Marked LeftParenthesis ∷ l) back
     ∙ ends connection_symbols (record { pin = pin.0.0; tied = tied.0.0 }) c end.0 rest end.2
 
 connection_complete : (c : Connection) (rest : List Symbol) → connection_at (connection_symbols c ++ rest) ≡ Some (c, rest)
 unfolding connection_at
 connection_complete c rest =
-    ap (λ l. connection_at (Marked Dot ∷ Named c.pin ∷ Marked LeftParenthesis ∷ l)) (closing (tied_symbols c.tied) rest)
+    ap (λ l. connection_at (Marked Dot ∷ Named c.pin ∷ Marked LeftParenthesis ∷ l)) (closed (tied_symbols c.tied) (Marked RightParenthesis) rest)
     ∙ rw (tied_complete c.tied rest) refl
 
 pub connection_laws : Spells connection_symbols connection_at
@@ -127,14 +124,14 @@ instance_sound ss i rest h =
     let second = after_ok LeftParenthesis name.0.1 inside.0 inside.1 in
     let front : ss ≡ Named name.0.0 ∷ Marked LeftParenthesis ∷ inside.0 = cc in
     let back = connections_sound inside.0 cs.0.0 cs.0.1 cs.1 ∙ ap (λ l. listed connection_symbols cs.0.0 ++ l) (after_ok RightParenthesis cs.0.1 end.0 end.1)
-    ∙ sym (closing (listed connection_symbols cs.0.0) end.0) in
+    ∙ sym (closed (listed connection_symbols cs.0.0) (Marked RightParenthesis) end.0) in
     front ∙ ap (λ l. Named name.0.0 ∷ Marked LeftParenthesis ∷ l) back
     ∙ ends instance_symbols (record { name = name.0.0; connections = cs.0.0 }) i end.0 rest end.2
 
 instance_complete : (i : Instance) (rest : List Symbol) → instance_at (instance_symbols i ++ rest) ≡ Some (i, rest)
 unfolding instance_at
 instance_complete i rest =
-    ap (λ l. instance_at (Named i.name ∷ Marked LeftParenthesis ∷ l)) (closing (listed connection_symbols i.connections) rest)
+    ap (λ l. instance_at (Named i.name ∷ Marked LeftParenthesis ∷ l)) (closed (listed connection_symbols i.connections) (Marked RightParenthesis) rest)
     ∙ rw (connections_complete i.connections rest) refl
 
 pub instance_laws : Spells instance_symbols instance_at

@@ -2,6 +2,7 @@
 use Rattle.std.proofs.Common.{◌≡◌, ◌≢◌, ℕ, List, [], ◌∷◌, ◌++◌, map, refl, sym, ap, subst, true, false, ◌∙◌, inl, inr, append_assoc}
 use Rattle.std.specs.Prelude.{Some, None, Result, Err}
 use Rattle.std.specs.Result.{IsErrAnd}
+use Rattle.std.proofs.lemmas.List.{append-nil, map-append}
 use Rattle.std.proofs.lemmas.Result.{err_from_is_err_and}
 use Rattle.hold_base.specs.declared.stop.Stop.{Stop}
 use Rattle.hold_base.specs.declared.stop.Stop.TheVariants.{Memory, Fault}
@@ -24,7 +25,7 @@ use Rattle.hold_vparse.specs.Body.{blamed_at_front, Blames, Stops, IsBody, IsBod
 use Rattle.hold_vparse.specs.Reads.{StopsBy, Faults}
 use Rattle.hold_vparse.specs.Whole.{IsModuleFault}
 use Rattle.hold_vparse.proofs.PieceLaws.{cut_piece, item_not_closing, opening_first}
-use Rattle.hold_vparse.proofs.StepLemmas.{symbols_cut, map-append}
+use Rattle.hold_vparse.proofs.StepLemmas.{symbols_cut}
 use Rattle.hold_vparse.proofs.HeaderLaws.{opening_piece, opening_sound, opening_complete}
 
 abbrev pub module_of : Ident → Header → List Item → Module
@@ -100,12 +101,8 @@ pub nothing_stops : (ts : List Lexeme) (end : ℕ) → ts ≡ [] → IsModuleFau
 nothing_stops [] end is = inr (no_tokens, refl)
 nothing_stops (t ∷ ts) end is = cc
 
-plain : {X : Type 0} (a : List X) → a ++ [] ≡ a
-plain [] = refl
-plain (x ∷ a) = ap (λ l. x ∷ l) (plain a)
-
 joined : (done : List (List Lexeme)) (b : List Lexeme) (more : List (List Symbol)) → map symbols (done ++ b ∷ []) ++ more ≡ map symbols done ++ symbols b ∷ more
-joined done b more = ap (λ l. l ++ more) (map-append done (b ∷ [])) ∙ append_assoc (map symbols done) (symbols b ∷ []) more
+joined done b more = ap (λ l. l ++ more) (map-append symbols done (b ∷ [])) ∙ append_assoc (map symbols done) (symbols b ∷ []) more
 
 -- where the first piece opens a module
 module _ (ts : List Lexeme) (name : Ident) (header : Header) (first : List Lexeme) (new : List Lexeme)
@@ -130,10 +127,10 @@ module _ (ts : List Lexeme) (name : Ident) (header : Header) (first : List Lexem
           fine = (
             module_of name header items,
             end_piece ∷ [],
-            stands items done (end_piece ∷ []) [] (written ∙ sym (plain (map item_piece items))) refl
-                ∙ ap (λ l. map symbols l ++ end_piece ∷ []) (sym (cut ∙ ap (λ l. first ∷ l) (split ∙ plain done))),
+            stands items done (end_piece ∷ []) [] (written ∙ sym (append-nil (map item_piece items))) refl
+                ∙ ap (λ l. map symbols l ++ end_piece ∷ []) (sym (cut ∙ ap (λ l. first ∷ l) (split ∙ append-nil done))),
           );
-          open_end = λ m h. early m (sym (ap (map symbols) (cut ∙ ap (λ l. first ∷ l) (split ∙ plain done))) ∙ h);
+          open_end = λ m h. early m (sym (ap (map symbols) (cut ∙ ap (λ l. first ∷ l) (split ∙ append-nil done))) ∙ h);
         },
         stops,
       )
@@ -147,7 +144,7 @@ module _ (ts : List Lexeme) (name : Ident) (header : Header) (first : List Lexem
         record {
           rest = ps;
           cut = cut ∙ ap (λ l. first ∷ l) split;
-          fine = (module_of name header items, end_piece ∷ [], stands items done (end_piece ∷ []) [] (written ∙ sym (plain (map item_piece items))) refl);
+          fine = (module_of name header items, end_piece ∷ [], stands items done (end_piece ∷ []) [] (written ∙ sym (append-nil (map item_piece items))) refl);
           stuck = λ s. never s.0 s.1 s.2;
         },
         is_bad.named,
@@ -170,7 +167,7 @@ module _ (ts : List Lexeme) (name : Ident) (header : Header) (first : List Lexem
             module_of name header items,
             [],
             stands items (done ++ bad ∷ []) [] (end_piece ∷ [])
-                (map-append done (bad ∷ []) ∙ ap (λ l. l ++ symbols bad ∷ []) written ∙ ap (λ x. map item_piece items ++ x ∷ []) e.0) refl,
+                (map-append symbols done (bad ∷ []) ∙ ap (λ l. l ++ symbols bad ∷ []) written ∙ ap (λ x. map item_piece items ++ x ∷ []) e.0) refl,
           );
           stuck = λ s. never s.0 s.1 s.2;
         },

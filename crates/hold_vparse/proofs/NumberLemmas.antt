@@ -1,6 +1,10 @@
--- What a number is whose first digits are read.
-use Rattle.std.proofs.Common.{◌≡◌, ℕ, zero, suc, ◌+◌, ◌-◌, ◌*◌, ◌<◌, ◌≤◌, List, [], ◌∷◌, length, drop, get_or, refl, arith}
-use Rattle.hold_vparse.specs.Number.{number_from}
+-- What a number is whose first digits are read, and that decimal digits write the number that std reads in them.
+use Rattle.std.proofs.Common.{◌≡◌, ℕ, zero, suc, ◌+◌, ◌-◌, ◌*◌, ◌<◌, ◌≤◌, List, [], ◌∷◌, length, drop, get_or, refl, ◌∙◌, ap, arith}
+use Rattle.std.specs.Char.{digit_value}
+use Rattle.std.specs.Str.Parse.{AllDigits, digits_value, digits_value_after}
+use Rattle.std.proofs.lemmas.Str.{digit_value_digit}
+use Rattle.std.proofs.lemmas.Str.Parse.{digit_from_value}
+use Rattle.hold_vparse.specs.Number.{number_from, number_of}
 
 -- more digits don't make a number less
 number_from_grows : (n : ℕ) (digits : List ℕ) → n ≤ number_from n digits
@@ -19,3 +23,13 @@ pub at_least_front : (n total : ℕ) (digits : List ℕ) (i : ℕ) → i < lengt
     → n * 10 + (get_or digits i 0 - 48) ≤ total
 at_least_front n total digits i h e =
     omega (arith, number_from-drop n digits i h, number_from_grows (n * 10 + (get_or digits i 0 - 48)) (drop (suc i) digits))
+
+-- decimal digits behind those of a number write what std reads in them
+number_from-digits : (n : ℕ) (digits : List ℕ) → AllDigits 10 digits → number_from n digits ≡ digits_value_after 10 n digits
+number_from-digits n [] h = refl
+number_from-digits n (d ∷ ds) h =
+    let value : n * 10 + (d - 48) ≡ n * 10 + digit_value d = omega (arith, digit_value_digit d (digit_from_value d h.0)) in
+    ap (λ (m : ℕ). number_from m ds) value ∙ number_from-digits (n * 10 + digit_value d) ds h.1
+
+pub number_of-digits : (digits : List ℕ) → AllDigits 10 digits → number_of digits ≡ digits_value 10 digits
+number_of-digits digits h = number_from-digits 0 digits h

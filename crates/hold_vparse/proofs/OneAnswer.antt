@@ -1,6 +1,7 @@
 -- A text has one syntax tree or one fault, and not both.
 use Rattle.std.proofs.Common.{◌≡◌, ℕ, List, [], ◌∷◌, ◌++◌, map, refl, sym, ap, subst, ◌∙◌, inl, inr, append_assoc}
 use Rattle.std.specs.Prelude.{Option, Some, None, Result, Ok, Err, IfOk}
+use Rattle.std.proofs.lemmas.List.{append-nil, map-append}
 use Rattle.std.proofs.lemmas.Option.{some_pair_parts}
 use Rattle.hold_base.specs.declared.stop.Stop.{Stop}
 use Rattle.hold_base.specs.declared.stop.Stop.TheVariants.{Memory, Fault}
@@ -18,7 +19,6 @@ use Rattle.hold_vparse.specs.Grammar.{header_piece, item_piece, end_piece, piece
 use Rattle.hold_vparse.specs.Reading.{opening_at, item_at}
 use Rattle.hold_vparse.specs.Text.{IsModule, CanStand, IsFirstBad, IsPieceFault, blame, left_out_in}
 use Rattle.hold_vparse.specs.Reads.{IsTree, IsSyntaxFault, Answers, AnswersFault, Faults}
-use Rattle.hold_vparse.proofs.StepLemmas.{map-append}
 use Rattle.hold_vparse.proofs.HeaderLaws.{opening_complete}
 use Rattle.hold_vparse.proofs.ItemLaws.{item_complete}
 use Rattle.hold_vparse.proofs.ModuleLemmas.{module_of, not_end}
@@ -51,18 +51,14 @@ one_tree text m n a b = one_module m n (sym a.pieces ∙ b.pieces)
 
 -- what stands before what can stand can stand
 front_stands : (a b : List (List Lexeme)) → CanStand (a ++ b) → CanStand a
-front_stands a b s = (s.0, map symbols b ++ s.1, s.2 ∙ ap (λ l. l ++ s.1) (map-append a b) ∙ append_assoc (map symbols a) (map symbols b) s.1)
+front_stands a b s = (s.0, map symbols b ++ s.1, s.2 ∙ ap (λ l. l ++ s.1) (map-append symbols a b) ∙ append_assoc (map symbols a) (map symbols b) s.1)
 
 bad_in_whole : (tokens : List Lexeme) (done : List (List Lexeme)) (bad : List Lexeme) → IsFirstBad tokens done bad → CanStand (pieces tokens) → ⊥
 bad_in_whole tokens done bad first all =
     first.stuck (front_stands (done ++ bad ∷ []) first.rest (subst CanStand (first.cut ∙ sym (append_assoc done (bad ∷ []) first.rest)) all))
 
-nothing_added : {X : Type 0} (xs : List X) → xs ≡ xs ++ []
-nothing_added [] = refl
-nothing_added (x ∷ xs) = ap (λ l. x ∷ l) (nothing_added xs)
-
 whole_stands : (tokens : List Lexeme) (m : Module) → IsModule tokens m → CanStand (pieces tokens)
-whole_stands tokens m is = (m, [], sym is ∙ nothing_added (map symbols (pieces tokens)))
+whole_stands tokens m is = (m, [], sym is ∙ sym (append-nil (map symbols (pieces tokens))))
 
 no_both : (f : Option LexFault) (g : LexFault) → f ≡ None → f ≡ Some g → ⊥
 no_both f g a b = let e : None ≡ Some g = sym a ∙ b in never e

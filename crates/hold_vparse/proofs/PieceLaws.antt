@@ -1,6 +1,7 @@
 -- Where the first piece of the tokens ends, and that what is written as a piece is one.
 use Rattle.std.proofs.Common.{◌≡◌, List, [], ◌∷◌, ◌++◌, length, refl, ap, cond, Bool, true, false, ◌∙◌, ◌<◌, ◌≤◌, arith}
 use Rattle.std.specs.Prelude.{Option, Some, None}
+use Rattle.std.specs.List.{AllByRecursion}
 use Rattle.hold_netlist.specs.declared.wire.Direction.{Direction}
 use Rattle.hold_netlist.specs.declared.wire.Direction.TheVariants.{Input as InputPort, Output as OutputPort}
 use Rattle.hold_vlex.specs.Lexed.{Lexeme}
@@ -31,9 +32,10 @@ use Rattle.hold_vparse.specs.Passing.{first_within, rest_within, first_piece, re
 use Rattle.hold_vparse.specs.Reading.{begins, is_mark}
 use Rattle.hold_vparse.specs.Grammar.{separated, several, listed, name_symbols, wire_symbols, bounds_symbols, range_symbols, direction_mark, port_symbols, next_port_symbols, header_symbols, selected_symbols, part_symbols, right_symbols, assignment_symbols, tied_symbols, connection_symbols, instance_symbols, item_symbols, item_piece}
 use Rattle.hold_vparse.proofs.HeaderLaws.{closed, opening_piece}
+use Rattle.hold_vparse.proofs.Pairs.{all-append}
 
 -- the pieces are the first and those of what is behind it
-pub cut_within : (ts : List Lexeme) → pieces_within ts ≡ first_within ts ∷ pieces (rest_within ts)
+cut_within : (ts : List Lexeme) → pieces_within ts ≡ first_within ts ∷ pieces (rest_within ts)
 cut_within [] = refl
 cut_within (t ∷ ts) = by (ends_piece (symbol t)) (cut_within ts)
   where
@@ -67,10 +69,6 @@ whole_piece (t ∷ ts) = by (is_piece (symbol t))
     by true = refl
     by false = ap (λ l. t ∷ l) (whole_within ts)
 
-pub symbols-append : (a b : List Lexeme) → symbols (a ++ b) ≡ symbols a ++ symbols b
-symbols-append [] b = refl
-symbols-append (t ∷ a) b = ap (λ l. symbol t ∷ l) (symbols-append a b)
-
 -- less is left
 length-rest_within : (ts : List Lexeme) → length (rest_within ts) ≤ length ts
 length-rest_within [] = omega arith
@@ -88,13 +86,11 @@ length-rest_behind t ts = by (is_piece (symbol t)) (length-rest_within ts)
     by false h = omega arith
 
 -- no semicolon stands among the symbols
-abbrev pub NoEnd : List Symbol → Type 0
-NoEnd [] = Unit {0}
-NoEnd (s ∷ ss) = (ends_piece s ≡ false) × NoEnd ss
+abbrev NoEnd : List Symbol → Type 0
+NoEnd ss = AllByRecursion (λ (s : Symbol). ends_piece s ≡ false) ss
 
 no_end-append : (a b : List Symbol) → NoEnd a → NoEnd b → NoEnd (a ++ b)
-no_end-append [] b h k = k
-no_end-append (s ∷ a) b h k = (h.0, no_end-append a b h.1 k)
+no_end-append a b h k = all-append (λ (s : Symbol). ends_piece s ≡ false) a b h k
 
 no_end-separated : {X : Type 0} (write : X → List Symbol) → ((x : X) → NoEnd (write x)) → (xs : List X) → NoEnd (separated write xs)
 no_end-separated write h [] = tt
@@ -233,7 +229,7 @@ first_within_is (s ∷ a) (t ∷ ts) rest h e =
     let more : symbols ts ≡ a ++ Marked Semicolon ∷ rest = cc in
     rw (ap ends_piece first ∙ h.0) (ap (λ l. symbol t ∷ l) (first_within_is a ts rest h.1 more) ∙ ap (λ x. x ∷ (a ++ Marked Semicolon ∷ [])) first)
 
-pub first_piece_is : (a : List Symbol) (ts : List Lexeme) (rest : List Symbol) → NoEnd a → begins EndModule a ≡ false
+first_piece_is : (a : List Symbol) (ts : List Lexeme) (rest : List Symbol) → NoEnd a → begins EndModule a ≡ false
     → symbols ts ≡ a ++ Marked Semicolon ∷ rest → symbols (first_piece ts) ≡ a ++ Marked Semicolon ∷ []
 first_piece_is [] [] rest h b e = cc
 first_piece_is [] (t ∷ ts) rest h b e =

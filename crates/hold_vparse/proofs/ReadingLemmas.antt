@@ -2,6 +2,7 @@
 use Rattle.std.proofs.Common.{◌≡◌, ℕ, zero, suc, ◌<◌, ◌≤◌, List, [], ◌∷◌, ◌++◌, length, drop, refl, sym, ap, cond, Bool, true, false, ◌∙◌, arith, append_assoc, length-append, ◌⊎◌, inl, inr}
 use Rattle.std.specs.Prelude.{Option, Some, None, ◌==◌, if◌then◌else◌}
 use Rattle.std.proofs.lemmas.Bool.Decides.{nat_tests}
+use Rattle.std.proofs.lemmas.List.{append-nil}
 use Rattle.std.proofs.lemmas.Option.{some_pair_parts}
 use Rattle.std.specs.Option.{option_and_then}
 use Rattle.hold_vparse.specs.declared.mark.Mark.{Mark}
@@ -152,14 +153,7 @@ pub more_ended : {X : Type 0} (read : Reads X) (xs : List X) (ss rest : List Sym
     → with_front xs (more_of read ss) ≡ total → begins Comma ss ≡ false → rest ≡ behind Comma ss → total ≡ Some (xs, rest)
 more_ended read xs ss rest total so_far is there =
     let here : rest ≡ ss = there ∙ ap (λ b. cond b (drop 1 ss) ss) is in
-    sym so_far ∙ ap (with_front xs) (more_stop read ss is) ∙ ends xs ss ∙ ap (λ r. Some (xs, r)) (sym here)
-  where
-    nothing_more : {Y : Type 0} (ys : List Y) → ys ++ [] ≡ ys
-    nothing_more [] = refl
-    nothing_more (y ∷ ys) = ap (λ l. y ∷ l) (nothing_more ys)
-
-    ends : {Y : Type 0} (ys : List Y) (r : List Symbol) → with_front ys (Some ([], r)) ≡ Some (ys, r)
-    ends ys r = ap (λ l. Some (l, r)) (nothing_more ys)
+    sym so_far ∙ ap (with_front xs) (more_stop read ss is) ∙ ap (λ ys. Some (ys, ss)) (append-nil xs) ∙ ap (λ r. Some (xs, r)) (sym here)
 
 -- that can't read one
 pub more_failed : {X : Type 0} (read : Reads X) (xs : List X) (ss mid : List Symbol) (total : Option (List X × List Symbol))

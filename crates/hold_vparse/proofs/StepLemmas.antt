@@ -1,6 +1,7 @@
 -- What the first piece of the tokens is, where a statement, the end of the module or neither was read.
 use Rattle.std.proofs.Common.{◌≡◌, ◌≢◌, ℕ, List, [], ◌∷◌, ◌++◌, map, length, refl, sym, ap, subst, true, false, ◌∙◌, inl, inr, append_assoc, ◌<◌, arith, length-append}
 use Rattle.std.specs.Prelude.{Option, Some, None}
+use Rattle.std.proofs.lemmas.List.{map-append}
 use Rattle.hold_vlex.specs.Lexed.{Lexeme}
 use Rattle.hold_vlex.specs.declared.token.Token.{Token}
 use Rattle.hold_vparse.specs.declared.fault.VerilogFault.{VerilogFault}
@@ -14,10 +15,11 @@ use Rattle.hold_vparse.specs.Reading.{begins, item_at}
 use Rattle.hold_vparse.specs.Tokens.{IsPopped, in_sight}
 use Rattle.hold_vparse.specs.Body.{blamed, IsStatement, Follows, Stops, HasRead, IsBody}
 use Rattle.hold_vparse.proofs.ReadingLemmas.{begins_is}
-use Rattle.hold_vparse.proofs.PieceLaws.{cut_piece, whole_piece, symbols-append, length-rest_behind, item_first}
+use Rattle.hold_vparse.proofs.PieceLaws.{cut_piece, whole_piece, length-rest_behind, item_first}
 use Rattle.hold_vparse.proofs.ItemLaws.{item_sound, item_complete}
 
-not_empty : (a : List Symbol) (s : Symbol) (b : List Symbol) → [] ≡ (a ++ s ∷ []) ++ b → ⊥
+-- what ends in some symbol isn't empty
+pub not_empty : (a : List Symbol) (s : Symbol) (b : List Symbol) → [] ≡ (a ++ s ∷ []) ++ b → ⊥
 not_empty a s b h = omega (arith, ap length h, length-append (a ++ s ∷ []) b, length-append a (s ∷ []))
 
 -- a statement that is read is the first piece
@@ -30,7 +32,7 @@ step_ok (t ∷ ts) i rest h = (
 )
 
 pub symbols_cut : (ts : List Lexeme) (a : List Symbol) → symbols (first_piece ts) ≡ a → symbols ts ≡ a ++ symbols (rest_behind ts)
-symbols_cut ts a h = sym (ap symbols (whole_piece ts)) ∙ symbols-append (first_piece ts) (rest_behind ts) ∙ ap (λ l. l ++ symbols (rest_behind ts)) h
+symbols_cut ts a h = sym (ap symbols (whole_piece ts)) ∙ map-append symbol (first_piece ts) (rest_behind ts) ∙ ap (λ l. l ++ symbols (rest_behind ts)) h
 
 -- where no statement is read and the module doesn't end, the first piece can't stand
 pub step_bad : (ts : List Lexeme) (end : ℕ) (fault : VerilogFault) → in_sight ts ≢ None → begins EndModule (symbols ts) ≡ false → item_at (symbols ts) ≡ None
@@ -90,23 +92,11 @@ pub one_read : (ps qs rs : List (List Lexeme)) (items more : List Item) (i : Ite
 one_read ps qs rs items more i read is same = record {
   done = read.done ++ is.piece ∷ [];
   cut = read.cut ∙ ap (λ l. read.done ++ l) is.cut ∙ sym (append_assoc read.done (is.piece ∷ []) rs);
-  written = joined read.done is.piece ∙ ap (λ l. l ++ symbols is.piece ∷ []) read.written ∙ ap (λ s. map item_piece items ++ s ∷ []) is.written
-      ∙ sym (items_joined items i) ∙ ap (map item_piece) (sym same);
+  written = map-append symbols read.done (is.piece ∷ []) ∙ ap (λ l. l ++ symbols is.piece ∷ []) read.written ∙ ap (λ s. map item_piece items ++ s ∷ []) is.written
+      ∙ sym (map-append item_piece items (i ∷ [])) ∙ ap (map item_piece) (sym same);
 }
-  where
-    joined : (a : List (List Lexeme)) (p : List Lexeme) → map symbols (a ++ p ∷ []) ≡ map symbols a ++ symbols p ∷ []
-    joined [] p = refl
-    joined (x ∷ a) p = ap (λ l. symbols x ∷ l) (joined a p)
-
-    items_joined : (a : List Item) (x : Item) → map item_piece (a ++ x ∷ []) ≡ map item_piece a ++ item_piece x ∷ []
-    items_joined [] x = refl
-    items_joined (y ∷ a) x = ap (λ l. item_piece y ∷ l) (items_joined a x)
-
-pub map-append : (a b : List (List Lexeme)) → map symbols (a ++ b) ≡ map symbols a ++ map symbols b
-map-append [] b = refl
-map-append (x ∷ a) b = ap (λ l. symbols x ∷ l) (map-append a b)
 
 pub all_read : (ps qs : List (List Lexeme)) (items : List Item) → HasRead ps items qs → map symbols qs ≡ end_piece ∷ [] → IsBody ps items
 all_read ps qs items read is = record {
-  written = ap (map symbols) read.cut ∙ map-append read.done qs ∙ ap (λ l. l ++ map symbols qs) read.written ∙ ap (λ l. map item_piece items ++ l) is;
+  written = ap (map symbols) read.cut ∙ map-append symbols read.done qs ∙ ap (λ l. l ++ map symbols qs) read.written ∙ ap (λ l. map item_piece items ++ l) is;
 }

@@ -2,13 +2,19 @@
 --   scalar.
 -- reach wires name: the reach of a name among these wires.
 -- is_within r i: whether the index lies between the bounds of a range, or is one.
--- runs_along r s: whether the bounds s run the same way as those of the range. A single bit runs either way.
--- is_missing reach s: whether what is selected isn't there: the net itself, or a bit or a part of it.
+-- runs_along r s: whether the bounds s run the same way as those of the range. A single bit runs either way; a range
+--   of one bit counts as running down.
+-- has_bits r s: whether both bounds s lie within the range and run along it.
+-- is_missing reach s: whether what is selected isn't there: there is no such net, or a bit or a part of a scalar is
+--   selected, or the bit or a bound of the part lies outside the range, or the part runs against the range.
 -- width reach s: how many bits are selected, as it is written; None of a whole net that isn't there.
+-- part_width wires p, is_missing_part wires p: that width, and whether it is missing, of a part of a net.
 -- right_width wires r: how many bits the right side of an assignment has. A constant has one.
 -- differ a b: whether two widths are known and differ.
--- misfit_assignment, misfit_tied: the identifiers of an assignment or a connection at which a bit isn't there, or
---   widths differ, which is told at the left side.
+-- misfit_left, misfit_right: the net on that side of an assignment, where what is selected of it isn't there; the left
+--   one also where the two sides differ in width. misfit_assignment: both.
+-- misfit_tied: the net in a connection, where its bit isn't there or where, named whole, it hasn't one bit.
+-- misfit_instance, misfit_named: these of all connections of an instance.
 -- misfit m: all of these in the module.
 use Rattle.std.specs.Prelude.{ℕ, Bool, true, false, not, ◌&&◌, ◌||◌, ◌==◌, nat_le, min, max, bytes_eq, List, [], ◌∷◌, ◌++◌, flat_map, if◌then◌else◌, Option, Some, None}
 use Rattle.hold_netlist.specs.Bits.{width_of_range}
@@ -93,7 +99,10 @@ misfit_tied wires (Constant value) = []
 abbrev pub misfit_instance : List Wire → Instance → List Ident
 misfit_instance wires i = flat_map (λ (c : Connection). misfit_tied wires c.tied) i.connections
 
+abbrev pub misfit_named : List Wire → Ident × Instance → List Ident
+misfit_named wires i = misfit_instance wires i.1
+
 abbrev pub misfit : Module → List Ident
 misfit m =
     flat_map (misfit_assignment (nets m)) (assignments m.items)
-    ++ flat_map (λ (i : Ident × Instance). misfit_instance (nets m) i.1) (instances m.items)
+    ++ flat_map (misfit_named (nets m)) (instances m.items)

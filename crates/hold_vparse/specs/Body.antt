@@ -1,6 +1,8 @@
 -- blamed ts: what the first piece of the tokens is refused for, where no word `module` may open it.
 -- blamed_at_front ts: the same where it may.
 -- Blames stop fault: the stop is this fault. Want of memory may come in its place.
+-- Follows ps fault: something follows on the end of the module, and the fault tells that. IsBad p fault: the piece can't
+--   stand there, and the fault tells that.
 -- IsStatement i ps qs: the pieces ps are the statement i and then the pieces qs.
 -- Stops ps end fault: no statement and no end of the module stands first among the pieces, or something follows on
 --   the end, and the fault tells that; end is where the text ends.

@@ -1,10 +1,16 @@
--- first_bit wires name: the number of the first bit of the wire of that name.
--- place_in range i: how many bits of a range stand before its bit i.
--- offset range s: how many bits of a net stand before the first that is selected.
+-- first_bit wires name: the number of the first bit of the first wire of that name; where there is none, how many
+--   bits there are.
+-- place_in reach i: how many bits of a net stand before its bit i, the distance from its left bound; 0 for a scalar
+--   and for no net. net_width reach: how many bits the net has; 1 for no net.
+-- selected_bits first reach s: the net bits that s selects of a net whose first bit is `first`, from the left end of s.
 -- part_bits wires p: the net bits that a part selects, from its left end.
+-- net_number n, net_bit n: the net bit of that number, and as a source. constant value: a constant as a source.
 -- sources wires r: what the bits of a right side are, from its left end.
--- tied_bits lefts rights: one assignment for each bit, from the left end.
--- source wires t: what a pin is tied to.
+-- tied_bits lefts rights: one assignment for each pair of bits, from the left end. Both sides are equally wide
+--   wherever no fault is found, so the same bits are paired from the right end.
+-- assigned wires a: the assignments of single bits that one assignment makes.
+-- source wires t: what a pin is tied to. pin, inst, port: a connection, an instance with the name of its type, and a
+--   port, as the netlist has them.
 -- design_of m: the netlist that the module declares: its ports, its wires, its instances, and its assignments bit
 --   by bit.
 use Rattle.std.specs.Prelude.{ℕ, ◌+◌, ◌-◌, Bool, true, false, bytes_eq, List, [], ◌∷◌, map, flat_map, if◌then◌else◌, Some, None}

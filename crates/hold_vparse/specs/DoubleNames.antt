@@ -1,18 +1,24 @@
 -- Role: what a place in the text does to the name that stands there: it lists a port whose direction the body
---   gives, declares a port in the header, gives a port its direction, declares a wire, declares an instance, or
+--   has to give, declares a port in the header, gives a port its direction, declares a wire, declares an instance, or
 --   uses a net, in a connection or on the left of an assignment.
 -- Mention: a name with its place, and its role there.
--- mentions m: all mentions, in the order of the text. What stands only on the right of assignments isn't one.
+-- mentions m: all mentions, in the order of the text. What stands on the right of assignments isn't one, nor are the
+--   module's name, types and pins. mentions_of_instance, mentions_of_item: those in one part of it. mention role name:
+--   one mention.
 -- clash listed net earlier later: whether two mentions of one name, in these roles, declare it twice, where
 --   `listed` says whether the name stands in a plain list of ports, and `net` whether it is declared as a net. A
 --   name that isn't is declared by its first use.
--- doubles m seen later: of the later mentions, those that declare a name again that the seen ones or earlier ones
---   of them declare.
+-- declares_again m later earlier: whether two mentions have one name and clash.
+-- doubles m seen later: of the later mentions, those that clash with a seen one or an earlier one of them; so each use
+--   of an implicit net behind an instance of its name is one.
 -- repeated_pins seen cs: of the connections, the pins that are among the seen or an earlier one's.
+-- repeated_in i: the pins that an instance names again.
 -- doubled m: each identifier at which a name is declared again, or an instance names a pin again.
 use Rattle.std.specs.Prelude.{ℕ, Bool, true, false, not, ◌&&◌, bytes_eq, List, [], ◌∷◌, ◌++◌, map, flat_map, if◌then◌else◌}
 use Rattle.std.specs.List.{list_any}
 use Rattle.hold_netlist.specs.Names.{is_among}
+pub use Rattle.hold_vparse.specs.declared.mentions.Role.{Role}
+pub use Rattle.hold_vparse.specs.declared.mentions.Role.TheVariants.{ListsPort, DeclaresPort, GivesDirection, DeclaresWire, DeclaresInstance, UsesNet}
 use Rattle.hold_vparse.specs.declared.tree.Ident.{Ident}
 use Rattle.hold_vparse.specs.declared.tree.Assignment.{Assignment}
 use Rattle.hold_vparse.specs.declared.tree.Connection.{Connection}
@@ -22,14 +28,6 @@ use Rattle.hold_vparse.specs.declared.tree.Item.TheVariants.{Ports, Wires, Assig
 use Rattle.hold_vparse.specs.declared.tree.Module.{Module}
 use Rattle.hold_vparse.specs.Lines.{all, PortLine, header_names, header_lines, instances}
 use Rattle.hold_vparse.specs.Nets.{names, declared_names, used_in_instance}
-
-pub data Role : Type 0 where
-  ListsPort : Role
-  DeclaresPort : Role
-  GivesDirection : Role
-  DeclaresWire : Role
-  DeclaresInstance : Role
-  UsesNet : Role
 
 pub record Mention : Type 0 where
   pub role : Role
@@ -80,5 +78,8 @@ repeated_pins seen (c ∷ cs) =
     if is_among c.pin.name seen then c.pin ∷ repeated_pins (seen ++ c.pin.name ∷ []) cs
     else repeated_pins (seen ++ c.pin.name ∷ []) cs
 
+abbrev pub repeated_in : Ident × Instance → List Ident
+repeated_in i = repeated_pins [] i.1.connections
+
 abbrev pub doubled : Module → List Ident
-doubled m = doubles m [] (mentions m) ++ flat_map (λ (i : Ident × Instance). repeated_pins [] i.1.connections) (instances m.items)
+doubled m = doubles m [] (mentions m) ++ flat_map repeated_in (instances m.items)

@@ -3,6 +3,7 @@
 --
 -- separated write xs: the xs, each after a comma. several write s: one or more with commas between them.
 -- listed write xs: the same, and nothing where there are none.
+-- name_symbols i: an identifier. bounds_symbols r: two bounds with their brackets. direction_mark d: the word of a direction.
 -- wire_symbols written: the word `wire` where it is written.
 -- range_symbols r: the range; nothing for a scalar.
 -- port_symbols p: a port that is declared in the header. next_port_symbols p: a later one.

@@ -1,4 +1,5 @@
 pub mod Number
+pub mod Index
 pub mod Symbols
 pub mod Pieces
 pub mod Grammar
@@ -6,7 +7,14 @@ pub mod Text
 pub mod Lines
 pub mod Nets
 pub mod Soonest
+pub mod Found
+pub mod Widths
+pub mod NamedTree
+pub mod NumberOrder
 pub mod DoubleNames
+pub mod Flat
+pub mod Uses
+pub mod FirstBits
 pub mod PortFaults
 pub mod BitFaults
 pub mod Declares
@@ -20,3 +28,7 @@ pub mod Passing
 pub mod Body
 pub mod Whole
 pub mod Named
+pub mod Barred
+pub mod DeclaredNetlist
+pub mod Clear
+pub mod DesignWith

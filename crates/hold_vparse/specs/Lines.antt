@@ -1,13 +1,18 @@
 -- all s: the one or more, as a list.
--- bounds_of r: the two bounds of a range; None of a scalar.
--- PortLine: a port as some line declares it: its direction, range and name. WireLine: a wire alike.
+-- range_bounds r: the two bounds of a range. bounds_of r: the same; None of a scalar.
+-- PortLine: a port as some line declares it: its direction, range and name. WireLine: a wire as some
+--   line declares it: its range and name. port_line, wire_line: such a line of these parts.
 -- header_names h: the names of a plain list of ports, in order; of any other header none.
 -- header_lines h: the ports that the header declares, in order. One that stands there by its name alone has the
 --   direction and the range of the one before it.
--- body_lines items: the ports that the body gives a direction, in order. wire_lines items: the wires that it
---   declares by the word `wire` at the head of a statement.
--- assignments items, instances items: all of them, in order; an instance with the name of its type.
+--   header_line p, next_lines d r ps: the lines of one port, and of those behind one of this direction and range.
+-- body_lines items: the names to which the body gives a direction, in order, also those that are no port. wire_lines
+--   items: the wires that it declares by the word `wire` at the head of a statement.
+-- assignments items, instances items: all of them, in order; an instance with the name of its type. A word that ends in
+--   `_of_item` has those of one statement.
 -- line_of name lines: the first of the lines that declares this name.
+-- as_declared i line: the port i as that line declares it. ports_in h lines: the ports of a header, those of a plain
+--   list as these lines declare them.
 -- ports_of m: the ports in header order, each with its direction and range. A port of a plain list to which no
 --   line gives a direction is taken for a scalar input; where there is one, the text is refused.
 use Rattle.std.specs.Prelude.{ℕ, List, [], ◌∷◌, map, flat_map, bytes_eq, if◌then◌else◌, Option, Some, None}

@@ -1,9 +1,9 @@
--- has_large_bound w: whether a bound of the wire is above 2^20 - 1.
+-- is_large_range r: whether a bound of the range is above 2^20 - 1. has_large_bound w: whether one of the wire is.
 -- first_limit m: the first limit that the module passes: of a bound, then of the netlist's counts.
 -- name_fault f is: the fault at the one of these identifiers that stands first in the text.
 -- first_name_fault m: what the module is refused for: a name that is declared twice, else a port that is declared
---   otherwise than it may, else a bit that isn't there or doesn't fit, else a limit. None where it declares a
---   netlist.
+--   otherwise than it may, else a bit that isn't there or doesn't fit, each at the identifier that stands first in the
+--   text; else a limit. None where it declares a netlist.
 use Rattle.std.specs.Prelude.{ℕ, Bool, false, ◌||◌, nat_lt, List, if◌then◌else◌, Option, Some, None}
 use Rattle.std.specs.List.{list_any}
 use Rattle.std.specs.Option.{option_map, option_or}

@@ -1,6 +1,6 @@
 -- IsNamed s: where the symbol is an identifier, its name is one.
 -- AreNamed ss: so it is for each of the symbols.
--- IsNamedModule m: each identifier that is written in the module has a name.
+-- IsNamedModule m: each identifier that is written in the module is a name: at least one byte, each from 33 to 126.
 use Rattle.std.specs.Prelude.{List}
 use Rattle.std.specs.List.{AllByRecursion}
 use Rattle.hold_netlist.specs.Names.{IsName}

@@ -3,10 +3,13 @@
 -- names is: the names of identifiers.
 -- port_idents m: the identifiers of the ports in the header.
 -- declared_names m: the names that are declared as nets: by a header, by a direction or by `wire`.
--- uses m: the identifiers that stand in a connection or on the left of an assignment, in the order of the text.
+-- uses m: the identifiers that stand in a connection or on the left of an assignment, in the order of the text;
+--   used_in_tied, used_in_instance, used_in_item: those in one part of it.
 -- first_uses seen is: those whose name is neither among the seen nor an earlier one's.
+-- wire name range: a wire of that name and range.
 -- port_wires m: the wires of the ports, in header order. other_wires m: the other declared ones, in order.
--- implicit_wires m: a scalar for each name that is declared nowhere and is used, in the order of first uses.
+-- implicit_wires m: a scalar for each name that is used and that no header, direction or `wire` declares, in the order of
+--   first uses. That an instance has the name makes no difference.
 -- nets m: all wires: ports, other declared ones, implicit ones.
 use Rattle.std.specs.Prelude.{ℕ, List, [], ◌∷◌, ◌++◌, map, flat_map, not, if◌then◌else◌, Option, None}
 use Rattle.std.specs.List.{filter}

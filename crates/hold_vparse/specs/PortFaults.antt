@@ -3,6 +3,7 @@
 -- port_line_of m name: the first line that gives this name a direction, in a header or in the body.
 -- same_range r s: whether two ranges have the same bounds, or neither has any.
 -- later i j: whichever stands later in the text.
+-- unlike_line w line: the later of a wire and a port's line, where their ranges differ.
 -- unlike m: of each port and a wire of its name whose range is another, the later declaration.
 -- misdeclared m: the identifiers at which a port is declared otherwise than it may.
 use Rattle.std.specs.Prelude.{ℕ, Bool, true, false, not, ◌&&◌, ◌==◌, List, [], ◌∷◌, ◌++◌, map, flat_map, nat_lt, is_none, if◌then◌else◌, Option, Some, None}

@@ -1,11 +1,14 @@
 -- What the parts of the reader give: each reads one part of the tree from the front of the symbols, and answers it
 -- with the symbols behind it, or nothing where the symbols don't begin so. A longer part goes before a shorter one.
 --
+-- is_mark m s: whether the symbol is that mark.
 -- begins m ss: whether the symbols begin with that mark. behind m ss: the symbols without the mark, where they
 --   begin with it. after m ss: the same, and nothing where they begin otherwise.
 -- more_of read ss: as many as there are, each after a comma. n bounds their number in more_up_to.
 -- with_front front read: what was read, with those in front of it that were read before.
--- NAME_at ss: one part of that name. A name that says `after` has its first symbol behind it already.
+-- Reads X: what reads an X from the front of the symbols. >>=: one reading after another.
+-- NAME_at ss: one part of that name. NAME_in s: the same of the first symbol alone. NAME_by: the same, by
+--   what was found in front. A name that says `after` has its first symbol behind it already.
 use Rattle.std.specs.Prelude.{ℕ, zero, suc, Bool, false, ◌==◌, List, [], ◌∷◌, ◌++◌, length, drop, if◌then◌else◌, Option, Some, None}
 use Rattle.std.specs.Option.{option_and_then}
 use Rattle.hold_netlist.specs.declared.wire.Direction.{Direction}

@@ -1,11 +1,13 @@
--- IsTree text m: the text has no lexical fault, and its tokens are those of the module m.
--- Reads text d: the text reads as the netlist d: it is a module whose names are in order, and declares d.
+-- IsTree text m: the text has no lexical fault, and its tokens, cut into pieces, are the pieces of the module m.
+-- Reads text d: the text is a module with no fault in its names, ports, bits and limits, and d is the netlist that it
+--   declares.
 -- IsLexFault text fault: the fault is the text's first lexical fault.
--- IsBadPiece text fault: there is none, and the fault is that of the first piece that can't stand.
--- IsEarlyEnd text fault: there is none, each piece can stand, and the text ends before its module does.
+-- IsBadPiece text fault: the text has no lexical fault, and the fault is that of the first piece that can't stand.
+-- IsEarlyEnd text fault: the text has no lexical fault, each piece can stand, and the text ends before its module does; the
+--   fault is a piece that can't stand at the text's end.
 -- IsSyntaxFault text fault: the text is no module, for its first lexical fault, else for its first piece that can't
 --   stand, else since it ends too early.
--- IsNameFault text fault: the text is a module, and the fault is the first in its names.
+-- IsNameFault text fault: the text is a module, and the fault is the first in its names, ports, bits and limits.
 -- IsFirstFault text fault: the one fault that the text is refused for.
 -- StopsBy stop IsRight, Faults result IsRight: where it is a fault, it is a right one. Answers result x, AnswersFault result fault:
 --   the result is x, or this fault. Want of memory may come in either case.

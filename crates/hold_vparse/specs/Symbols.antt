@@ -1,14 +1,17 @@
--- Symbol: what the grammar sees of a token: a word or a sign that it asks for, an identifier with its place, a
---   number, a constant of one bit, or something that stands in no piece of the grammar.
+-- Symbol: what the grammar sees of a token: a word or a sign that it asks for (Marked), an identifier with its place
+--   (Named), a number (Counted), a constant of one bit (Tied), or what stands in no piece of the grammar (Strange).
+-- ident t, word_symbol t, symbol_of t: a token as an identifier, as a word, and by its sort.
 -- mark_number m: the number of a mark, by which marks are told apart.
 -- mark_words: the words of the grammar. mark_of_row row: the mark of the word in that place among them, from 0.
 -- word_mark text: the mark of a word of the grammar; None for any other word.
--- sign_mark text: the mark of a sign of the grammar; None for any other sign.
+-- sign_mark text: the mark of a sign of the grammar; None for any other sign. mark_of_sign byte: that of a sign's byte.
+-- marked mark: the symbol of a mark; Strange where there is none.
 -- symbol t: the symbol of a token. A word is an identifier where it is no keyword; an escaped name always is one,
 --   also where it is spelled as a keyword.
 -- symbols ts: the symbols of tokens, in order.
 -- is_left_out t: whether the token is a word, a directive or a sign that the profile leaves out. The word
---   `module` is; where it opens the text, that isn't asked.
+--   `module` is; where it opens the text, that isn't asked. is_in_profile mark: whether the grammar has this keyword inside a
+--   piece. is_left_out_sign, is_left_out_as: the same of a sign's text, and of a text by its token's sort.
 use Rattle.std.specs.Prelude.{ℕ, List, [], ◌∷◌, map, Bool, true, false, not, ◌&&◌, ◌||◌, ◌==◌, bytes_eq, if◌then◌else◌, Option, Some, None, codes}
 use Rattle.hold_vparse.specs.Number.{number_of}
 use Rattle.std.specs.Option.{option_and_then}

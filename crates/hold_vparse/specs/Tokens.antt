@@ -1,4 +1,4 @@
--- front_lexeme f: the token in sight, without where it lies in memory.
+-- IsSeenFront front token: where a token is in sight, it is this one.
 -- tokens_from front rest: the tokens that are left: the one in sight, and those of the rest.
 -- IsSeen front rest: no lexical fault follows, the symbol in sight is its token's, and where none is in sight,
 --   none is left.

@@ -4,7 +4,7 @@ use thiserror::Error;
 
 /// Why a text has no netlist. Places count bytes from 0. The variants stand in the order in which they are
 /// looked for.
-#[derive(Debug, Drop, Error)]
+#[derive(Debug, Drop, PartialEq, Eq, Error)]
 pub enum VerilogFault {
     /// The text has no tokens from some place on.
     #[error("a text that can't be cut into tokens")]

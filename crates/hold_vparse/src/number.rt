@@ -1,7 +1,10 @@
 ghost use Rattle.std.specs.Prelude.{◌≡◌, ◌≤◌, IfOk, IfSome, IfNone};
 ghost use Rattle.hold_vparse.specs.Number.{number_of};
 
+mod order;
+
 use hold_base::{List, Memory};
+pub(crate) use order::{are_equal, has_same_sums, is_at_most};
 use std::alloc::Global;
 use std::marker::Model;
 
@@ -42,7 +45,7 @@ impl Number {
                 kept: Kept::Small(n),
             }),
             None => {
-                let digits = Vec::from_slice(alloc, digits)?;
+                let digits = Vec::from_slice(alloc, without_zeros(digits))?;
                 Ok(Number {
                     kept: Kept::Digits(List::from_vec(digits)),
                 })
@@ -60,6 +63,17 @@ impl Number {
             Kept::Digits(_) => None,
         }
     }
+}
+
+/// These digits without leading zeros, which would only be walked again and again.
+fn without_zeros(digits: &[u8]) -> &[u8]
+    ensures { number_of result.now ≡ number_of digits.now }
+{
+    let mut rest = digits;
+    while let [b'0', behind @ ..] = rest {
+        rest = behind;
+    }
+    rest
 }
 
 /// The number that these digits write, where it is below 2^32.

@@ -76,7 +76,7 @@ fn module(alloc: Global, reader: &mut Reader<'_>, end: u64) -> Result<Module, St
 }
 
 /// The syntax tree of a text, or the fault for which it has none.
-pub fn syntax_tree(alloc: Global, text: &[u8]) -> Result<Module, Stop<VerilogFault>>
+pub(crate) fn syntax_tree(alloc: Global, text: &[u8]) -> Result<Module, Stop<VerilogFault>>
     ensures read { IfOk result (IsTree text.now) }
     ensures refused { Faults result (IsSyntaxFault text.now) }
     ensures only_read { (m : TheModule) → IsTree text.now m → Answers result m }

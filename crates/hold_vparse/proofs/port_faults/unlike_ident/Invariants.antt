@@ -1,0 +1,12 @@
+use Rattle.std.proofs.Common.{◌≡◌, drop}
+use Rattle.std.specs.Prelude.{flat_map}
+use Rattle.hold_vparse.specs.Flat.{seen_wires}
+use Rattle.hold_vparse.specs.Found.{merged, found_ident}
+use Rattle.hold_vparse.specs.Lines.{WireLine, line_of}
+use Rattle.hold_vparse.specs.PortFaults.{unlike_line}
+use Rattle.hold_vparse.specs.Soonest.{soonest}
+use Rattle.hold_vparse.proofs.port_faults.unlike_ident.Given as goal
+
+abbrev pub invariant-loop-wire : goal.invariant-loop-wire
+invariant-loop-wire l = merged (found_ident l.found) (soonest (flat_map (λ (w : WireLine). unlike_line w (line_of w.name.name l.lines)) (seen_wires (drop l.wire-index l.wires))))
+    ≡ soonest (flat_map (λ (w : WireLine). unlike_line w (line_of w.name.name l.lines)) (seen_wires l.wires))

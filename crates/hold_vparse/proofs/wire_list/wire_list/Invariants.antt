@@ -1,0 +1,11 @@
+use Rattle.std.proofs.Common.{◌≡◌, ◌++◌, drop, false}
+use Rattle.std.specs.List.{list_any}
+use Rattle.hold_vparse.specs.Flat.{net_wires}
+use Rattle.hold_vparse.specs.NameFaults.{has_large_bound}
+use Rattle.hold_vparse.proofs.wire_list.wire_list.Given as goal
+
+abbrev pub invariant-loop-wire : goal.invariant-loop-wire
+invariant-loop-wire l = record {
+  made : l.list.items ++ net_wires (drop l.wire-index l.wires) ≡ net_wires l.wires;
+  small : list_any has_large_bound (net_wires (drop l.wire-index l.wires)) ≡ false;
+}

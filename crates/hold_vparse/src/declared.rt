@@ -1,0 +1,22 @@
+ghost use Rattle.std.specs.Prelude.{IfOk};
+ghost use Rattle.hold_vparse.specs.DeclaredNetlist.{IsDeclared, IsFirstNameFault};
+ghost use Rattle.hold_vparse.specs.Named.{IsNamedModule};
+ghost use Rattle.hold_vparse.specs.Reads.{Faults};
+
+use crate::fault::VerilogFault;
+use crate::netlist::netlist_of;
+use crate::tables::{parts_in, tables_of};
+use crate::tree::Module;
+use hold_base::Stop;
+use hold_netlist::Netlist;
+use std::alloc::Global;
+
+/// The netlist that a module declares, or the first fault in its names and limits.
+pub(crate) fn declared(alloc: Global, tree: &Module) -> Result<Netlist, Stop<VerilogFault>>
+    requires { IsNamedModule tree.now }
+    ensures declared { IfOk result (IsDeclared tree.now) }
+    ensures refused { Faults result (IsFirstNameFault tree.now) }
+{
+    let tables = tables_of(alloc, tree)?;
+    netlist_of(alloc, &parts_in(&tables))
+}

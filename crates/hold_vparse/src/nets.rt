@@ -1,0 +1,89 @@
+ghost use Rattle.std.specs.Prelude.{◌≡◌, slice_get, IfOk};
+ghost use Rattle.std.specs.Option.{option_map};
+ghost use Rattle.hold_netlist.specs.Names.{wire_names};
+ghost use Rattle.hold_netlist.specs.declared.wire.Wire.{Wire};
+ghost use Rattle.hold_vparse.specs.BitFaults.{reach};
+ghost use Rattle.hold_vparse.specs.Flat.{targets, net_wires, named_idents, seen_reach};
+ghost use Rattle.hold_vparse.specs.Index.{place_of};
+
+use crate::index::Index;
+use crate::lines::NamedWire;
+use crate::tree::{Ident, Range};
+use hold_base::{Memory, Name};
+use std::alloc::Global;
+use std::marker::Model;
+
+/// All nets, with the first of each name. A contract sees the wires.
+#[derive(Drop)]
+pub(crate) struct Nets<'a> {
+    wires: Vec<NamedWire<'a>>,
+    index: Index<'a>,
+}
+
+impl<'a> Model for Nets<'a> {
+    ghost use Rattle.std.specs.Prelude.{◌≡◌, List, map};
+    ghost use Rattle.hold_netlist.specs.declared.wire.Wire.{Wire};
+    ghost use Rattle.hold_vparse.specs.Flat.{net_wires, named_idents};
+
+    ghost Value = { List Wire };
+
+    ghost view = { λ n. net_wires n.wires.items };
+
+    ghost invariant = { λ n. n.index ≡ named_idents n.wires.items };
+}
+
+/// The identifiers of these wires.
+fn wire_idents<'a>(alloc: Global, wires: &[NamedWire<'a>]) -> Result<Vec<&'a Ident>, Memory>
+    ensures { IfOk result (λ list. targets list.items ≡ named_idents wires.now) }
+{
+    let mut list = Vec::new(alloc);
+    for wire in wires {
+        list.push(wire.name)?;
+    }
+    Ok(list)
+}
+
+impl<'a> Nets<'a> {
+    /// Takes these wires over.
+    pub(crate) fn of(alloc: Global, wires: Vec<NamedWire<'a>>) -> Result<Nets<'a>, Memory>
+        ensures { IfOk result (λ nets. nets ≡ net_wires wires.entry.items) }
+    {
+        let idents = wire_idents(alloc, &wires)?;
+        let index = Index::of(alloc, idents)?;
+        Ok(Nets { wires, index })
+    }
+
+    /// Lends the wires.
+    pub(crate) fn wires(&self) -> &[NamedWire<'a>]
+        ensures { net_wires result.now ≡ self.now }
+    {
+        self.wires.as_slice()
+    }
+
+    /// The place of the first wire of this name.
+    pub(crate) fn place(&self, name: &Name) -> Option<u32>
+        ensures { result ≡ place_of name.now (wire_names self.now) }
+    {
+        self.index.place(name)
+    }
+
+    /// Whether there is a net of this name, and its range where it has one.
+    pub(crate) fn reach(&self, name: &Name) -> Option<Option<&'a Range>>
+        ensures { seen_reach result ≡ reach self.now name.now }
+    {
+        match self.index.place(name) {
+            Some(place) => range_at(&self.wires, place),
+            None => None,
+        }
+    }
+}
+
+/// The range of the wire at a place, where there is one.
+fn range_at<'a>(wires: &[NamedWire<'a>], place: u32) -> Option<Option<&'a Range>>
+    ensures { seen_reach result ≡ option_map (λ (w : Wire). w.range) (slice_get (net_wires wires.now) place) }
+{
+    match wires.get(place as usize) {
+        Some(wire) => Some(wire.range),
+        None => None,
+    }
+}

@@ -1,0 +1,133 @@
+ghost use Rattle.std.specs.Prelude.{◌≡◌, ◌++◌, map, IfOk};
+ghost use Rattle.hold_vparse.specs.declared.tree.Ident.{Ident as Named};
+ghost use Rattle.hold_vparse.specs.Flat.{targets, seen_port, seen_ports, seen_found};
+ghost use Rattle.hold_vparse.specs.Lines.{PortLine, line_of, as_declared, ports_in, header_names, header_lines};
+
+use crate::index::Index;
+use crate::lines::{Port, header_lines_in, header_names_in};
+use crate::tree::{Header, Ident};
+use hold_base::{Memory, Name};
+use hold_netlist::Direction;
+use std::alloc::Global;
+use std::marker::Model;
+
+/// Ports as lines declare them, with the first line of each name. A contract sees the lines.
+#[derive(Drop)]
+pub(crate) struct Ports<'a> {
+    lines: Vec<Port<'a>>,
+    index: Index<'a>,
+}
+
+impl<'a> Model for Ports<'a> {
+    ghost use Rattle.std.specs.Prelude.{◌≡◌, List, map};
+    ghost use Rattle.hold_vparse.specs.Flat.{seen_ports};
+    ghost use Rattle.hold_vparse.specs.Lines.{PortLine as Line};
+
+    ghost Value = { List Line };
+
+    ghost view = { λ p. seen_ports p.lines.items };
+
+    ghost invariant = { λ p. p.index ≡ map (λ (l : Line). l.name) (seen_ports p.lines.items) };
+}
+
+/// The identifiers that these lines declare.
+fn declared_idents<'a>(alloc: Global, lines: &[Port<'a>]) -> Result<Vec<&'a Ident>, Memory>
+    ensures { IfOk result (λ list. targets list.items ≡ map (λ (l : PortLine). l.name) (seen_ports lines.now)) }
+{
+    let mut list = Vec::new(alloc);
+    for line in lines {
+        list.push(line.name)?;
+    }
+    Ok(list)
+}
+
+impl<'a> Ports<'a> {
+    /// Takes these lines over.
+    pub(crate) fn of(alloc: Global, lines: Vec<Port<'a>>) -> Result<Ports<'a>, Memory>
+        ensures { IfOk result (λ ports. ports ≡ seen_ports lines.entry.items) }
+    {
+        let idents = declared_idents(alloc, &lines)?;
+        let index = Index::of(alloc, idents)?;
+        Ok(Ports { lines, index })
+    }
+
+    /// Lends the lines.
+    pub(crate) fn lines(&self) -> &[Port<'a>]
+        ensures { seen_ports result.now ≡ self.now }
+    {
+        self.lines.as_slice()
+    }
+
+    /// The first line of this name.
+    pub(crate) fn find(&self, name: &Name) -> Option<&Port<'a>>
+        ensures { seen_found result ≡ line_of name.now self.now }
+    {
+        match self.index.place(name) {
+            Some(place) => self.lines.get(place as usize),
+            None => None,
+        }
+    }
+}
+
+/// The port of a plain list as its first line declares it; a scalar input where no line does.
+fn declared_port<'a>(name: &'a Ident, lines: &Ports<'a>) -> Port<'a>
+    ensures { seen_port result ≡ as_declared name.now (line_of name.now.name lines.now) }
+{
+    match lines.find(&name.name) {
+        Some(line) => Port {
+            direction: line.direction,
+            range: line.range,
+            name,
+        },
+        None => Port {
+            direction: Direction::Input,
+            range: None,
+            name,
+        },
+    }
+}
+
+/// The ports of a plain list.
+fn plain_ports<'a>(
+    alloc: Global,
+    names: &'a [Ident],
+    lines: &Ports<'a>,
+) -> Result<Vec<Port<'a>>, Memory>
+    ensures { IfOk result (λ list. seen_ports list.items ≡ map (λ (i : Named). as_declared i (line_of i.name lines.now)) names.now) }
+{
+    let mut list = Vec::new(alloc);
+    for name in names {
+        list.push(declared_port(name, lines))?;
+    }
+    Ok(list)
+}
+
+/// The ports in the order of the header, where `lines` are those of a plain list.
+pub(crate) fn ports_of_header<'a>(
+    alloc: Global,
+    header: &'a Header,
+    lines: &Ports<'a>,
+) -> Result<Vec<Port<'a>>, Memory>
+    ensures { IfOk result (λ list. seen_ports list.items ≡ ports_in header.now lines.now) }
+{
+    match header {
+        Header::Bare => Ok(Vec::new(alloc)),
+        Header::Plain(names) => plain_ports(alloc, names.as_slice(), lines),
+        Header::Declared(_, _) => header_lines_in(alloc, header),
+    }
+}
+
+/// The identifiers of the ports in the header.
+pub(crate) fn header_idents<'a>(alloc: Global, header: &'a Header) -> Result<Vec<&'a Ident>, Memory>
+    ensures { IfOk result (λ list. targets list.items ≡ header_names header.now ++ map (λ (l : PortLine). l.name) (header_lines header.now)) }
+{
+    let lines = header_lines_in(alloc, header)?;
+    let mut list = Vec::new(alloc);
+    for name in header_names_in(header) {
+        list.push(name)?;
+    }
+    for line in &lines {
+        list.push(line.name)?;
+    }
+    Ok(list)
+}

@@ -1,0 +1,39 @@
+ghost use Rattle.std.specs.Prelude.{IfOk};
+ghost use Rattle.hold_netlist.specs.Design.{Design};
+ghost use Rattle.hold_vparse.specs.declared.fault.VerilogFault.{VerilogFault as TheFault};
+ghost use Rattle.hold_vparse.specs.Reads.{Reads, IsFirstFault, Faults, Answers, AnswersFault};
+
+use crate::declared::declared;
+use crate::fault::VerilogFault;
+use crate::syntax::syntax_tree;
+use hold_base::Stop;
+use hold_netlist::Netlist;
+use std::alloc::Global;
+
+/// Reads a text of structural Verilog, a part of IEEE 1364-2005: one module of scalar and vector ports and wires,
+/// assignments of nets, parts and constant bits, and instances whose pins are connected by name. Comments,
+/// attributes and directives that don't change the netlist are passed over.
+///
+/// The answer is the netlist that the text declares. A text that declares none is refused, for the first fault in
+/// the order of [`VerilogFault`]'s variants: for a place where it has no token, for the first piece that can't
+/// stand where it stands, for the first place at which a name, a port or a bit is at fault, or for the first limit
+/// that it passes. Either is the only answer but for want of memory, which may come at any text.
+pub fn read(alloc: Global, text: &[u8]) -> Result<Netlist, Stop<VerilogFault>>
+    ensures read { IfOk result (Reads text.now) }
+    ensures refused { Faults result (IsFirstFault text.now) }
+    ensures only_read { (d : Design) → Reads text.now d → Answers result d }
+    ensures only_refused { (fault : TheFault) → IsFirstFault text.now fault → AnswersFault result fault }
+{
+    netlist_of_text(alloc, text)
+}
+
+/// Reads the netlist that the text declares.
+fn netlist_of_text(alloc: Global, text: &[u8]) -> Result<Netlist, Stop<VerilogFault>>
+    ensures read { IfOk result (Reads text.now) }
+    ensures refused { Faults result (IsFirstFault text.now) }
+{
+    match syntax_tree(alloc, text) {
+        Ok(tree) => declared(alloc, &tree),
+        Err(stop) => Err(stop),
+    }
+}
