@@ -1,14 +1,16 @@
 -- The order of work, step by step: what is refused at a step is the first refusal over the files as they were at the beginning.
-use Rattle.std.proofs.Common.{◌≡◌, inr, ℕ, ◌≤◌, List, Option, Some, None, IsSome, refl, ap, sym, ◌∙◌, subst, length}
+use Rattle.std.proofs.Common.{◌≡◌, inr, ℕ, ◌<◌, ◌≤◌, arith, List, Option, Some, None, IsSome, refl, ap, sym, ◌∙◌, subst, length}
 use Rattle.hold_files.specs.Told.{Told, OnlyReads}
 use Rattle.hold_cli.specs.declared.job_form.Job.{Job}
 use Rattle.hold_cli.specs.declared.input.Stopped.TheVariants.{Refused}
 use Rattle.hold_cli.specs.declared.outcome.Fault.{Fault}
-use Rattle.hold_cli.specs.declared.outcome.Fault.TheVariants.{TooLong, NotBuilt}
+use Rattle.hold_cli.specs.declared.outcome.Fault.TheVariants.{TooLong, Verilog, NotBuilt}
 use Rattle.hold_cli.specs.JobForm.{IsJobText}
 use Rattle.hold_netlist.specs.Design.{Design}
-use Rattle.hold_netlist.specs.CanonicalText.{canonical_text}
-use Rattle.hold_cli.specs.Front.{file_limit, IsBuilt, HasText, IsJobAt, IsTold, RefusesJob, RefusesNetlist, Refuses, IsFront}
+use Rattle.hold_vparse.specs.Reads.{Reads}
+use Rattle.hold_cli.specs.Front.{file_limit, IsBuilt, HasOneReading, HasText, IsJobAt, IsNetlistAt, HoldsOneReading, IsJobRead, IsNetlistRead, BlamesNetlist, IsTold, RefusesText, RefusesJob, RefusesNetlist, Refuses, IsFront}
+use Rattle.hold_cli.proofs.FrontLemmas.{refused_or_job}
+use Rattle.hold_cli.proofs.JobFormLemmas.{IsJobText-unique}
 
 -- a text that is no job is refused under its own name
 pub not_a_job : (told : Told) (name bytes copy : List ℕ) (fault : Fault) → Refused (NotBuilt copy) ≡ Refused fault → copy ≡ name → length bytes ≤ file_limit
@@ -36,8 +38,10 @@ refused_before : (old mid : Told) (job : Job) (text : List ℕ) (fault : Fault) 
     → RefusesNetlist mid job fault → RefusesNetlist old job fault
 refused_before old mid job text (TooLong other) reads is refuses =
     (record { text = refuses.0.text; content = before old mid job.netlist text refuses.0.text reads is refuses.0.content; beyond = refuses.0.beyond }, refuses.1)
+refused_before old mid job text (Verilog fault) reads is refuses =
+    record { text = refuses.text; has = text_before old mid job.netlist text refuses.text reads is refuses.has; first = refuses.first }
 refused_before old mid job text (NotBuilt other) reads is refuses =
-    (record { text = refuses.0.text; has = text_before old mid job.netlist text refuses.0.text reads is refuses.0.has; none = refuses.0.none }, refuses.1)
+    (record { text = refuses.0.text; has = text_before old mid job.netlist text refuses.0.text reads is refuses.0.has; is = refuses.0.is }, refuses.1)
 
 pub netlist_refused : (old mid : Told) (name : List ℕ) (job : Job) (fault : Fault) → OnlyReads old mid
     → ((text : List ℕ) → old.content name ≡ Some text → IsJobAt old name job)
@@ -51,14 +55,81 @@ netlist_refused old mid name job fault reads job_at refuses told =
 
 pub netlist_found : (old mid : Told) (name : List ℕ) (job : Job) (netlist : Design) → OnlyReads old mid
     → ((text : List ℕ) → old.content name ≡ Some text → IsJobAt old name job)
-    → ((text : List ℕ) → mid.content job.netlist ≡ Some text → HasText mid job.netlist (canonical_text netlist))
+    → ((text : List ℕ) → mid.content job.netlist ≡ Some text → IsNetlistAt mid job netlist)
     → IsBuilt job netlist → IsTold old name → IsFront old name job netlist
-netlist_found old mid name job netlist reads job_at has built told =
+netlist_found old mid name job netlist reads job_at found built told =
     let named = content_of (old.content name) told.job in
     let at : IsJobAt old name job = job_at named.0 named.1 in
-    let held = content_of (old.content job.netlist) (told.netlist job at) in
+    let told_text = content_of (old.content job.netlist) (told.netlist job at) in
+    let held : IsNetlistAt mid job netlist = found told_text.0 (reads.contents job.netlist told_text.0 told_text.1) in
     record {
       at = at;
-      text = text_before old mid job.netlist held.0 (canonical_text netlist) reads held.1 (has held.0 (reads.contents job.netlist held.0 held.1));
+      held = record { text = held.text; has = text_before old mid job.netlist told_text.0 held.text reads told_text.1 held.has; reads = held.reads };
       built = built;
     }
+
+-- bytes that were read later are those that were told at the beginning
+pub netlist_read : (old mid : Told) (job : Job) (netlist : Design) → OnlyReads old mid → IsNetlistRead mid job netlist → IsNetlistRead old job netlist
+netlist_read old mid job netlist reads read = record {
+  bytes = read.bytes;
+  reads = read.reads;
+  are = λ text is. read.are text (reads.contents job.netlist text is);
+}
+
+pub netlist_blamed : (old mid : Told) (job : Job) (fault : Fault) → OnlyReads old mid → BlamesNetlist mid job fault → BlamesNetlist old job fault
+netlist_blamed old mid job (TooLong file) reads blames = blames
+netlist_blamed old mid job (Verilog fault) reads blames = record {
+  bytes = blames.bytes;
+  first = blames.first;
+  are = λ text is. blames.are text (reads.contents job.netlist text is);
+}
+netlist_blamed old mid job (NotBuilt file) reads blames = blames
+
+-- of one job that was read, the netlist's text has one reading
+pub one_reading : (old mid : Told) (name : List ℕ) (job : Job) → OnlyReads old mid → IsJobRead old name job
+    → ((text : List ℕ) → HasText mid job.netlist text → HasOneReading text) → HoldsOneReading old name
+one_reading old mid name job reads read one other at text has =
+    let bytes : read.bytes ≡ at.text = read.are at.text at.has.content in
+    let says : IsJobText at.text name job = subst (λ (t : List ℕ). IsJobText t name job) bytes read.says in
+    let same : other ≡ job = IsJobText-unique at.text name other job at.says says in
+    let here : HasText old job.netlist text = subst (λ (j : Job). HasText old j.netlist text) same has in
+    one text (record { content = reads.contents job.netlist text here.content; within = here.within })
+
+-- where the job is refused no netlist is read
+pub no_reading : (told : Told) (name : List ℕ) (fault : Fault) → ((text : List ℕ) → told.content name ≡ Some text → RefusesJob told name fault)
+    → HoldsOneReading told name
+no_reading told name fault refuses job at text has = absurd (refused_or_job told name fault job (refuses at.text at.has.content) at)
+
+-- ---- what is said of the bytes of a netlist, said of the file that they were read of
+
+module _ (told : Told) (job : Job) (bytes : List ℕ) (within : length bytes ≤ file_limit) (are : (text : List ℕ) → told.content job.netlist ≡ Some text → bytes ≡ text) where
+  has_bytes : (text : List ℕ) → told.content job.netlist ≡ Some text → HasText told job.netlist bytes
+  has_bytes text is = record { content = is ∙ ap Some (sym (are text is)); within = within }
+
+  pub bytes_held : (netlist : Design) → Reads bytes netlist → (text : List ℕ) → told.content job.netlist ≡ Some text → IsNetlistAt told job netlist
+  bytes_held netlist reads text is = record { text = bytes; has = has_bytes text is; reads = reads }
+
+  pub bytes_blamed : (fault : Fault) → RefusesText job bytes fault → BlamesNetlist told job fault
+  bytes_blamed (TooLong file) refuses = absurd refuses
+  bytes_blamed (Verilog fault) refuses = record { bytes = bytes; first = refuses; are = are }
+  bytes_blamed (NotBuilt file) refuses = refuses.1
+
+  pub bytes_refused : (fault : Fault) → RefusesText job bytes fault → (text : List ℕ) → told.content job.netlist ≡ Some text → RefusesNetlist told job fault
+  bytes_refused (TooLong file) refuses text is = absurd refuses
+  bytes_refused (Verilog fault) refuses text is = record { text = bytes; has = has_bytes text is; first = refuses }
+  bytes_refused (NotBuilt file) refuses text is = (record { text = bytes; has = has_bytes text is; is = refuses.0 }, refuses.1)
+
+  pub bytes_one : HasOneReading bytes → (text : List ℕ) → HasText told job.netlist text → HasOneReading text
+  bytes_one one text has = subst (λ (t : List ℕ). HasOneReading t) (are text has.content) one
+
+-- a file that is too long
+module _ (told : Told) (job : Job) (fault : Fault) (long : (text : List ℕ) → told.content job.netlist ≡ Some text → file_limit < length text) where
+  pub long_blamed : fault ≡ TooLong job.netlist → BlamesNetlist told job fault
+  long_blamed is = subst (λ (f : Fault). BlamesNetlist told job f) (sym is) refl
+
+  pub long_refused : fault ≡ TooLong job.netlist → (text : List ℕ) → told.content job.netlist ≡ Some text → RefusesNetlist told job fault
+  long_refused is text told_is =
+      subst (λ (f : Fault). RefusesNetlist told job f) (sym is) (record { text = text; content = told_is; beyond = long text told_is }, refl)
+
+  pub long_one : (text : List ℕ) → HasText told job.netlist text → HasOneReading text
+  long_one text has = absurd (omega (arith, long text has.content, has.within))

@@ -1,11 +1,3 @@
-pub mod CanonicalTokens
-pub mod CanonicalItems
-pub mod CanonicalLines
-pub mod CanonicalPorts
-pub mod CanonicalWhole
-pub mod CanonicalNets
-pub mod CanonicalInsts
-pub mod CanonicalEnd
 pub mod CommandLemmas
 pub mod JobFormLemmas
 pub mod JobFormKept
@@ -14,6 +6,7 @@ pub mod JobFormSets
 pub mod JobApart
 pub mod JobFormLimits
 pub mod TextsLemmas
+pub mod Readings
 pub mod FrontLemmas
 pub mod FrontSteps
 pub mod PinTexts

@@ -12,13 +12,15 @@ use Rattle.hold_graph.specs.Sums.{Buffers, no_buffers}
 use Rattle.hold_graph.specs.Met.{IsMet, Misses}
 use Rattle.hold_netlist.specs.Design.{Design}
 use Rattle.hold_netlist.specs.CanonicalText.{canonical_text}
+use Rattle.hold_vparse.specs.Reads.{Reads}
+use Rattle.hold_vparse.proofs.CanonicalReads.{canonical_reads}
 use Rattle.hold_plain.specs.Problem.{problem_of}
 use Rattle.hold_cli.specs.Command.{IsRepair}
 use Rattle.hold_cli.specs.Outcome.{GivesUp}
-use Rattle.hold_cli.specs.Front.{IsJobRead, IsBuilt, IsTold, IsFront}
+use Rattle.hold_cli.specs.Front.{IsJobRead, IsNetlistRead, IsBuilt, ComesToRead, IsTold, IsFront}
 use Rattle.hold_cli.specs.PaddingLine.{padding_line}
-use Rattle.hold_cli.specs.Texts.{Ready, IsDone}
-use Rattle.hold_cli.specs.Answer.{only_line, repair_texts, IsJudged, IsAnswer}
+use Rattle.hold_cli.specs.Texts.{Ready, IsDone, Fails}
+use Rattle.hold_cli.specs.Answer.{only_line, repair_texts, AreTexts, IsJudged, IsUnread, IsUnwritten, IsAnswer}
 use Rattle.hold_cli.proofs.FrontLemmas.{front_told, refused_or_front, one_front}
 use Rattle.hold_cli.proofs.Answers.{one_repair}
 
@@ -32,14 +34,14 @@ met_alone : (old new : Told) (name : List ℕ) (job : Job) (netlist : Design) (o
     → IsMet (problem_of job.timing netlist) no_buffers → (outcome ≡ Repaired 0) ⊎ GivesUp outcome
 met_alone old new name job netlist (Repaired cost) answer front met = inl (ap Repaired answer.verdict.0)
 met_alone old new name job netlist (NeedsPadding path short) answer front met =
-    let same = one_front old name job answer.job netlist answer.netlist front (answer.front (front_told old name job netlist front)) answer.only in
+    let same = one_front old name job answer.job netlist answer.netlist answer.one front (answer.front (front_told old name job netlist front)) in
     let misses : Misses (problem_of job.timing answer.netlist) no_buffers path short =
     subst (λ (j : Job). Misses (problem_of j.timing answer.netlist) no_buffers path short) same.0 answer.verdict.0 in
     let here : Misses (problem_of job.timing netlist) no_buffers path short =
     subst (λ (d : Design). Misses (problem_of job.timing d) no_buffers path short) same.1 misses in
     absurd (misses_or_met (problem_of job.timing netlist) no_buffers path short here met)
 met_alone old new name job netlist (Input fault) answer front met =
-    absurd (refused_or_front old name fault job netlist (answer.refuses (front_told old name job netlist front)) front)
+    absurd (refused_or_front old name fault job netlist answer.one (answer.refuses (front_told old name job netlist front)) front)
 met_alone old new name job netlist (ReadFault file) answer front met = inr tt
 met_alone old new name job netlist WriteFault answer front met = inr tt
 met_alone old new name job netlist Memory answer front met = inr tt
@@ -49,12 +51,12 @@ missed_alone : (old new : Told) (name : List ℕ) (job : Job) (netlist : Design)
     → (IsMet (problem_of job.timing netlist) no_buffers → ⊥) → ((path : Listed) × (short : ℤ) × (outcome ≡ NeedsPadding path short)) ⊎ GivesUp outcome
 missed_alone old new name job netlist (NeedsPadding path short) answer front missed = inl (path, short, refl)
 missed_alone old new name job netlist (Repaired cost) answer front missed =
-    let same = one_front old name job answer.job netlist answer.netlist front (answer.front (front_told old name job netlist front)) answer.only in
+    let same = one_front old name job answer.job netlist answer.netlist answer.one front (answer.front (front_told old name job netlist front)) in
     let met : IsMet (problem_of job.timing answer.netlist) no_buffers =
     subst (λ (j : Job). IsMet (problem_of j.timing answer.netlist) no_buffers) same.0 answer.verdict.1 in
     absurd (missed (subst (λ (d : Design). IsMet (problem_of job.timing d) no_buffers) same.1 met))
 missed_alone old new name job netlist (Input fault) answer front missed =
-    absurd (refused_or_front old name fault job netlist (answer.refuses (front_told old name job netlist front)) front)
+    absurd (refused_or_front old name fault job netlist answer.one (answer.refuses (front_told old name job netlist front)) front)
 missed_alone old new name job netlist (ReadFault file) answer front missed = inr tt
 missed_alone old new name job netlist WriteFault answer front missed = inr tt
 missed_alone old new name job netlist Memory answer front missed = inr tt
@@ -70,17 +72,17 @@ module _ (old new : Told) (words : List (List ℕ)) (named : List ℕ) (outcome 
 
   pub repaired : (name : List ℕ) (cost : ℕ) → IsRepair words name → IsTold old name → outcome ≡ Repaired cost
       → (job : Job) × (netlist : Design) × IsFront old name job netlist × (cost ≡ 0) × IsMet (problem_of job.timing netlist) no_buffers
-      × IsDone old new (repair_texts job (canonical_text netlist))
+      × IsDone old new (repair_texts job (canonical_text netlist)) × Reads (canonical_text netlist) netlist
   repaired name cost other told is =
       let a : IsJudged old new name (Repaired cost) = answer_is name other (Repaired cost) is in
-      (a.job, a.netlist, a.front told, a.verdict.0, a.verdict.1, subst (λ (r : Ready). IsDone old new r) a.verdict.2 a.done)
+      (a.job, a.netlist, a.front told, a.verdict.0, a.verdict.1, subst (λ (r : Ready). IsDone old new r) a.verdict.2 a.done, canonical_reads a.netlist a.built.valid)
 
   pub repaired_texts : (name : List ℕ) (cost : ℕ) → IsRepair words name → outcome ≡ Repaired cost
-      → (job : Job) × (netlist : Design) × IsJobRead old name job × IsBuilt job netlist × (cost ≡ 0) × IsMet (problem_of job.timing netlist) no_buffers
-      × IsDone old new (repair_texts job (canonical_text netlist))
+      → (job : Job) × (netlist : Design) × IsJobRead old name job × IsNetlistRead old job netlist × IsBuilt job netlist × (cost ≡ 0) × IsMet (problem_of job.timing netlist) no_buffers
+      × IsDone old new (repair_texts job (canonical_text netlist)) × Reads (canonical_text netlist) netlist
   repaired_texts name cost other is =
       let a : IsJudged old new name (Repaired cost) = answer_is name other (Repaired cost) is in
-      (a.job, a.netlist, a.read, a.built, a.verdict.0, a.verdict.1, subst (λ (r : Ready). IsDone old new r) a.verdict.2 a.done)
+      (a.job, a.netlist, a.read, a.netlist_read, a.built, a.verdict.0, a.verdict.1, subst (λ (r : Ready). IsDone old new r) a.verdict.2 a.done, canonical_reads a.netlist a.built.valid)
 
   pub needs_padding : (name : List ℕ) (path : Listed) (short : ℤ) → IsRepair words name → IsTold old name → outcome ≡ NeedsPadding path short
       → (job : Job) × (netlist : Design) × IsFront old name job netlist × Misses (problem_of job.timing netlist) no_buffers path short
@@ -90,11 +92,11 @@ module _ (old new : Told) (words : List (List ℕ)) (named : List ℕ) (outcome 
       (a.job, a.netlist, a.front told, a.verdict.0, subst (λ (r : Ready). IsDone old new r) a.verdict.1 a.done)
 
   pub padding_said : (name : List ℕ) (path : Listed) (short : ℤ) → IsRepair words name → outcome ≡ NeedsPadding path short
-      → (job : Job) × (netlist : Design) × IsJobRead old name job × IsBuilt job netlist × Misses (problem_of job.timing netlist) no_buffers path short
+      → (job : Job) × (netlist : Design) × IsJobRead old name job × IsNetlistRead old job netlist × IsBuilt job netlist × Misses (problem_of job.timing netlist) no_buffers path short
       × IsDone old new (only_line (padding_line job netlist path short))
   padding_said name path short other is =
       let a : IsJudged old new name (NeedsPadding path short) = answer_is name other (NeedsPadding path short) is in
-      (a.job, a.netlist, a.read, a.built, a.verdict.0, subst (λ (r : Ready). IsDone old new r) a.verdict.1 a.done)
+      (a.job, a.netlist, a.read, a.netlist_read, a.built, a.verdict.0, subst (λ (r : Ready). IsDone old new r) a.verdict.1 a.done)
 
   pub only_repaired : (name : List ℕ) (job : Job) (netlist : Design) → IsRepair words name → IsFront old name job netlist
       → IsMet (problem_of job.timing netlist) no_buffers → (outcome ≡ Repaired 0) ⊎ GivesUp outcome
@@ -103,3 +105,13 @@ module _ (old new : Told) (words : List (List ℕ)) (named : List ℕ) (outcome 
   pub only_needs_padding : (name : List ℕ) (job : Job) (netlist : Design) → IsRepair words name → IsFront old name job netlist
       → (IsMet (problem_of job.timing netlist) no_buffers → ⊥) → ((path : Listed) × (short : ℤ) × (outcome ≡ NeedsPadding path short)) ⊎ GivesUp outcome
   only_needs_padding name job netlist other front missed = missed_alone old new name job netlist outcome (answer_to name other) front missed
+
+  pub write_texts : (name : List ℕ) → IsRepair words name → outcome ≡ WriteFault → (ready : Ready) × AreTexts old name ready × Fails old new ready
+  write_texts name other is =
+      let a : IsUnwritten old new name = answer_is name other WriteFault is in
+      (a.ready, a.texts, a.fails)
+
+  pub read_named : (name file : List ℕ) → IsRepair words name → outcome ≡ ReadFault file → ComesToRead old name file
+  read_named name file other is =
+      let a : IsUnread old new name file = answer_is name other (ReadFault file) is in
+      a.named

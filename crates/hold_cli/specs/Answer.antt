@@ -1,28 +1,32 @@
--- usage_line, refusal_line, repaired_line: what is said of an answer.
+-- usage_line, repaired_line: what is said of an answer.
 -- whole_certificate: the certificate of a netlist that meets every check as it is: no buffer costs nothing, and one leaf proves that nothing costs less.
 -- only_line: an answer that writes no file.
 -- repair_texts job text: what a repair without buffers writes: the certificate, the netlist's canonical text, and its line.
 -- IsVerdict job netlist outcome ready: what the job's checks of the netlist come to, and the texts of it: a repair at cost 0 where no path misses a
 --   check, else a path that misses one, with by how much.
--- AreTexts told name ready: the texts are the line of a refusal, or those of a verdict on the job that was read from the file `name`.
+-- IsBlamed told name fault: where the job's file is told, the fault is one of the job in it, or it is one of that job's netlist.
+-- AreTexts told name ready: the texts are the line of a refusal that is to blame, or those of a verdict on the job that was read from the file `name`.
 -- Comes told name outcome ready: the order of work on the job in the file `name` comes to this outcome over these contents, and has these texts
---   ready. It never comes to a file that fails or to want of memory.
+--   ready. It never comes to a file that fails, to want of memory, or to words that are no
+--   command.
 -- IsCalm old new name job: no count rose of reads of the job or of its netlist, of writes of its outputs, nor of sayings.
 -- IsAnswer old new name outcome: the outcome is right for the repair of the job in the file `name`, begun over the old moment and ended at the new one.
---   IsJudged: it is the verdict on the job and the one netlist that were read, each of its texts was written, and where the files were told, they hold that
+--   IsJudged: it is the verdict on the job and the netlist that were read, each of its texts was written, and where the files were told, they hold that
 --   job and netlist. IsRefused: the line was said, and where the files were
---   told, that fault is the first refusal. IsUnread: the count of failed reads of that file rose, which the work comes to, and nothing changed. IsUnwritten: another
---   outcome had its texts ready, and one of them failed.
+--   told, that fault is the first refusal. IsUnread: the count of failed reads of that file rose, nothing changed, and the work comes to
+--   that file. IsUnwritten: another
+--   outcome had its texts ready, and one of them failed. But for a failed read
+--   and want of memory: where job and netlist are told and within the limit, the netlist's text has one reading.
 -- IsRefusal, IsDelivery: what is right once a fault, or a job and its netlist, have been read: the outcome of that, or what may come in its place.
-use Rattle.std.specs.Prelude.{◌≡◌, ◌⊎◌, ℕ, List, [], ◌∷◌, ◌++◌, Some, codes}
+use Rattle.std.specs.Prelude.{◌≡◌, ◌⊎◌, ℕ, List, [], ◌∷◌, Some, codes}
 use Rattle.hold_files.specs.Told.{Told, Rose}
 use Rattle.hold_cli.specs.declared.job_form.Job.{Job}
 use Rattle.hold_cli.specs.declared.outcome.Fault.{Fault}
-use Rattle.hold_cli.specs.declared.outcome.Fault.TheVariants.{TooLong, NotBuilt}
 use Rattle.hold_cli.specs.declared.outcome.Outcome.{Outcome}
 use Rattle.hold_cli.specs.declared.outcome.Outcome.TheVariants.{Repaired, NeedsPadding, Input, ReadFault, WriteFault, Memory, Words}
-use Rattle.hold_cli.specs.Front.{IsJobAt, IsJobRead, IsBuilt, IsOnlyReading, named_by, ComesTo, IsTold, RefusesJob, Refuses, IsFront}
+use Rattle.hold_cli.specs.Front.{IsJobAt, IsJobRead, IsNetlistRead, IsBuilt, HoldsOneReading, BlamesNetlist, ComesTo, ComesToRead, IsTold, RefusesJob, Refuses, IsFront}
 use Rattle.hold_cli.specs.PaddingLine.{padding_line}
+use Rattle.hold_cli.specs.RefusalLine.{refusal_line}
 use Rattle.hold_cli.specs.Texts.{Ready, IsDone, Fails, FailsInLine, SaysNothing}
 use Rattle.hold_netlist.specs.Design.{Design}
 use Rattle.hold_netlist.specs.CanonicalText.{canonical_text}
@@ -32,10 +36,6 @@ use Rattle.hold_plain.specs.Problem.{problem_of}
 
 abbrev pub usage_line : List ℕ
 usage_line = codes "usage: hold repair JOB, check JOB, report JOB, apply JOB or trial N\n"
-
-abbrev pub refusal_line : Fault → List ℕ
-refusal_line (TooLong file) = codes "input toolong " ++ file ++ codes "\n"
-refusal_line (NotBuilt file) = codes "input notbuilt " ++ file ++ codes "\n"
 
 abbrev pub repaired_line : List ℕ
 repaired_line = codes "repaired cost 0\n"
@@ -61,31 +61,39 @@ IsVerdict job netlist WriteFault ready = ⊥
 IsVerdict job netlist Memory ready = ⊥
 IsVerdict job netlist Words ready = ⊥
 
+-- the job in the file is to blame, or the netlist of the job that it holds
+abbrev pub IsBlamed : Told → List ℕ → Fault → Type 0
+IsBlamed told name fault =
+    (text : List ℕ) → told.content name ≡ Some text → RefusesJob told name fault ⊎ ((job : Job) × IsJobAt told name job × BlamesNetlist told job fault)
+
 -- the texts of a refusal, or of a verdict on the job that was read
 abbrev pub AreTexts : Told → List ℕ → Ready → Type 0
 AreTexts told name ready =
-    ((fault : Fault) × (ready ≡ only_line (refusal_line fault)))
-    ⊎ ((job : Job) × (netlist : Design) × (verdict : Outcome) × IsJobRead told name job × IsBuilt job netlist × IsVerdict job netlist verdict ready)
+    ((fault : Fault) × IsBlamed told name fault × (ready ≡ only_line (refusal_line fault)))
+    ⊎ ((job : Job) × (netlist : Design) × (verdict : Outcome) × IsJobRead told name job × IsNetlistRead told job netlist × IsBuilt job netlist
+    × IsVerdict job netlist verdict ready)
 
 pub record IsJudged (old new : Told) (name : List ℕ) (outcome : Outcome) : Type 0 where
   pub job : Job
   pub netlist : Design
   pub ready : Ready
   pub read : IsJobRead old name job
+  pub netlist_read : IsNetlistRead old job netlist
   pub built : IsBuilt job netlist
-  pub only : IsOnlyReading job netlist
+  pub one : HoldsOneReading old name
   pub verdict : IsVerdict job netlist outcome ready
   pub done : IsDone old new ready
   pub front : IsTold old name → IsFront old name job netlist
 
 pub record IsRefused (old new : Told) (name : List ℕ) (fault : Fault) : Type 0 where
   pub refuses : IsTold old name → Refuses old name fault
-  pub first : (text : List ℕ) → old.content name ≡ Some text
-      → RefusesJob old name fault ⊎ ((job : Job) × IsJobAt old name job × (named_by fault ≡ job.netlist))
+  pub first : IsBlamed old name fault
+  pub one : HoldsOneReading old name
   pub done : IsDone old new (only_line (refusal_line fault))
 
 pub record IsUnread (old new : Told) (name file : List ℕ) : Type 0 where
   pub cause : Rose (old.read_faults file) (new.read_faults file)
+  pub named : ComesToRead old name file
   pub comes : (text : List ℕ) → old.content name ≡ Some text → ComesTo old name file
   pub nothing : SaysNothing old new
 
@@ -113,6 +121,7 @@ pub record IsUnwritten (old new : Told) (name : List ℕ) : Type 0 where
   pub ready : Ready
   pub fails : Fails old new ready
   pub texts : AreTexts old name ready
+  pub one : HoldsOneReading old name
   pub comes : IsTold old name → (outcome : Outcome) × Comes old name outcome ready
 
 -- what is right of each outcome

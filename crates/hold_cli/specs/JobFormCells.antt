@@ -1,16 +1,21 @@
--- The cell types that a job lists.
+-- A table of a job's cell types.
 --
 -- arc_of, check_of: the arc, or the check, that a value gives: a table of all its keys and no others.
+-- arc_in, check_in: the same of the members of such a table, whatever other keys there are.
 -- comb_in, register_in: what a table gives by the keys of a role; a list that is left out is empty.
--- sources_of cell: the pins that arcs lead from: the inputs of a combinational cell, the clock of a register.
+-- cell_as role ms: the cell of that role that a table gives, where it has only the role's keys; nothing for another role.
+-- clock_pins clock: the clock pin as a list of one or none.
+-- sources_as role cell, sources_of cell: the pins that arcs lead from: the inputs of a combinational cell, the clock of a register.
 -- pins_of cell: all its pins.
 -- leads_between sources outputs arc: the arc leads from one of the sources to one of the outputs.
 -- pair_name arc: the names of both ends, with a space between. A name holds no space, so two arcs have the same pair name only where both ends
 --   agree.
+-- has_whole_arcs cell, has_whole_checks cell: the parts of the following that speak of arcs and of checks.
 -- is_whole cell: the cell's pins differ; each arc leads from a source to an output, and no two from the same pin to the same pin; each check is
 --   of a data pin, and no two are of the same.
--- cell_of: the cell type that a value gives: a table whose `role` is `comb` or `register`, and whose cell is whole.
--- cells_at: the cell types of a job: at most 4,096, with different names.
+-- cell_of: the cell type that a value gives: a table whose `role` is `comb` or `register`, which has only that role's keys, and
+--   whose cell is whole. cell_in: the same of a table's members.
+-- are_cells cells: at most 4,096, with different names. cells_at: the cell types of a job, where they are so.
 use Rattle.std.specs.Prelude.{ℕ, List, [], ◌∷◌, ◌++◌, map, length, codes, Bool, ◌&&◌, nat_le, bytes_eq, if◌then◌else◌, Option, Some, None}
 use Rattle.std.specs.List.{list_all}
 use Rattle.toml.specs.Data.{Data, Members, as_table}

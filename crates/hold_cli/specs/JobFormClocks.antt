@@ -1,6 +1,8 @@
 -- The clock arrivals that a job lists.
 --
+-- clock_in ms: the arrival that a table's members give.
 -- clock_of: the arrival that a value gives: a table of exactly an instance's name and its span.
+-- have_different_insts clocks: whether no two are of one instance.
 -- clocks_at: the arrivals of a job, of different instances.
 use Rattle.std.specs.Prelude.{List, map, codes, Bool, if◌then◌else◌, Option, Some, None}
 use Rattle.toml.specs.Data.{Data, Members, as_table}

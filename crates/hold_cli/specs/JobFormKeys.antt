@@ -3,10 +3,12 @@
 -- ◌>>=◌: what an optional value leads to; nothing leads to nothing. It is what `do` is read by.
 -- kept test: the value where it passes the test, and nothing where it doesn't.
 -- JobTable: the sorts of tables that a job is made of; keys_of: the keys that each may have.
+-- is_one_of keys key: whether the key is among them.
 -- has_only: whether each key of the members is one of the keys; members that are empty have only any keys.
 -- text_at, integer_at, array_at: the value at a key, where it is there and is of that kind.
 -- only_item: the item of a list that has exactly one.
 -- each_of read items: what each item of a list gives, in order. Nothing where one of them gives nothing.
+-- items_or_none value: the items of a list; none where there is no value.
 -- each_at read key ms: the same of the list at a key; no item where the key is missing, and nothing where it holds something else.
 use Rattle.std.specs.Prelude.{ℕ, ℤ, List, [], ◌∷◌, codes, Bool, true, false, ◌&&◌, ◌||◌, if◌then◌else◌, Option, Some, None, bytes_eq}
 use Rattle.toml.specs.Data.{Members, no_members, member, get_member, as_str, as_integer, as_array, Data, Items, no_items, item}

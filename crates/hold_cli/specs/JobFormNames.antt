@@ -1,11 +1,13 @@
--- The names in a job: of files, of the corner, and of cell types, instances and pins.
+-- Names of files, of the corner, and of cell types, instances and pins, in a job.
 --
--- file_name_at: the text at a key, where it has 1 to 4,096 bytes.
+-- is_file_name text: whether it has 1 to 4,096 bytes. file_name_at: the text at a key, where it is so.
 -- is_visible: whether a byte is from 33 to 126, so prints and is no space.
+-- is_name name: whether it is such a text, of visible bytes. is_corner_name name: the same with at most 64 bytes.
 -- name_of, name_at: the text that a value is, or that stands at a key, where it may name a cell type, an instance or a pin: 1 to 4,096 bytes
 --   that are visible.
 -- corner_name_at: the name of the one corner. Nothing where `corner` is no list of exactly one table, where that table has another key than
 --   `name`, or where the name isn't 1 to 64 bytes that are visible.
+-- corner_name_of corner: the same of that corner's table.
 -- names_differ: whether no two of the names are equal.
 use Rattle.std.specs.Prelude.{ℕ, List, [], length, codes, Bool, ◌&&◌, nat_le, if◌then◌else◌, Option, None, is_none}
 use Rattle.std.specs.List.{list_all}

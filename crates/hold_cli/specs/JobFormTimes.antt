@@ -1,10 +1,14 @@
 -- The times in a job, in fs. There is one corner, so each list of spans or values has exactly one item.
 --
--- time_of: the whole number that a value is, where it is at most 10^10 in magnitude; it may be below 0.
+-- is_time z: whether it is at most 10^10 in magnitude; it may be below 0. time_of: the whole number that a value is, where it is
+--   so. is_in_order span: whether its least end is at most its greatest.
 -- span_of: the span that a list of spans gives: a list of one pair of times, of which the first is at most the second.
+-- span_between first second, span_in_pair pair: the span of two values, and of a list of exactly two.
 -- span_at: the span in the list of spans at a key.
+-- known_span value: the span that a value gives; that there is none where there is no value.
 -- span_if_any: the same where the key may be missing: then it gives that there is no span.
 -- time_at: the time in the list of values at a key, which has one item.
+-- is_period z: whether it is from 1 to 10^10.
 -- period_at: the whole number at `period`, where it is from 1 to 10^10.
 use Rattle.std.specs.Prelude.{ℕ, ℤ, pos, neg_ℤ, int_le, List, codes, Bool, ◌&&◌, Option, Some, None, option_map}
 use Rattle.hold_base.specs.declared.time.Interval.{Interval}

@@ -1,7 +1,3 @@
-pub mod CanonicalPlain
-pub mod CanonicalLists
-pub mod CanonicalModule
-pub mod CanonicalInsts
 pub mod Outcome
 pub mod Command
 pub mod JobForm
@@ -12,5 +8,6 @@ pub mod JobFormCells
 pub mod JobFormClocks
 pub mod Front
 pub mod PaddingLine
+pub mod RefusalLine
 pub mod Texts
 pub mod Answer

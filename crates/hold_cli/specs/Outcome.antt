@@ -1,6 +1,6 @@
 -- status_of: the exit status of an outcome. 0 says that the work was done, 3 that an input is refused, 4 that a file can't be
--- read, 5 that one can't be written, 6 want of memory, 7 that the words are no command, and 9 that a path needs padding.
--- GivesUp: the outcome is one that may come in the place of any other: a file that fails, or want of memory.
+-- read, 5 that a file or the line can't be written, 6 want of memory, 7 that the words are no command, and 9 that a path needs padding.
+-- GivesUp: the outcome is one that may come in the place of a command's other answers: a file that fails, or want of memory.
 use Rattle.std.specs.Prelude.{ℕ}
 use Rattle.hold_cli.specs.declared.outcome.Outcome.{Outcome}
 use Rattle.hold_cli.specs.declared.outcome.Outcome.TheVariants.{Repaired, NeedsPadding, Input, ReadFault, WriteFault, Memory, Words}

@@ -1,10 +1,12 @@
 -- The line that says which path needs padding.
 --
+-- connection_text inst pin: the instance's name, a slash and the pin's name.
 -- inst_texts i: the texts of an instance's connections, in order: each the instance's name, a slash and the pin's name.
 -- pin_texts d: the texts of all pins in the order of their numbers: the connections of the instances, then the ports by their names. The
 --   wires are scalar, so a port is one pin.
 -- pin_text d pin: the text of the pin of that number; nothing past the last.
 -- side_text side: `early` or `late`.
+-- step_text d pin: a space and the pin's text.
 -- path_text d pins: each of these pins, a space before it.
 -- padding_line job d path short: the line: by how much the check is missed, in fs, then its side, the corner's name and the path's pins.
 use Rattle.std.specs.Prelude.{ℕ, ℤ, List, [], ◌++◌, map, flat_map, slice_index_or, codes}

@@ -1,12 +1,13 @@
 -- Ready: the texts that an answer writes: files by name and text, in the order of writing, and then a line that is said.
 -- NotAmong name files: none of these files has this name.
 -- AreWhole old new files: each of these files, where its content was told, now has its whole text.
--- OthersKeep old new files: every file of another name stays as it was.
--- IsDone old new ready: every text was written, the line was said, and nothing else changed.
--- FailsInFile old new ready: one of the files failed. Those before it are whole; it is as before, empty or cut short; those after it and all others stay,
---   and nothing was said.
--- FailsInLine old new ready: the files are whole, and the line was cut short. Fails: one of the two.
--- SaysNothing old new: no file changed and nothing was said.
+-- OthersKeep old new files: every file of another name, where its content was told, stays as it was.
+-- IsDone old new ready: every text was written, the line was said, and nothing else changed, each as far as it was told.
+-- FailsInFile old new ready: one of the files failed, and its count of failed writes rose. Those before it are whole; it is as
+--   before, empty or cut short; those after it and all others stay, and nothing was said.
+-- FailsInLine old new ready: the files are whole, all others stay, the line was cut short, and the count of failed sayings rose.
+--   Fails: one of the two.
+-- SaysNothing old new: no file changed and nothing was said, as far as they were told.
 use Rattle.std.specs.Prelude.{◌≡◌, ◌≢◌, ◌⊎◌, ℕ, List, [], ◌∷◌, ◌++◌, Some, IsSome}
 use Rattle.hold_files.specs.Told.{Told, Rose, Keeps, KeepsSaid, SameContents}
 use Rattle.hold_files.specs.Whole.{IsPartWritten, IsPartSaid}

@@ -1,13 +1,10 @@
-ghost use Rattle.std.specs.Prelude.{◌≡◌, ◌≢◌, ◌⊎◌, ◌++◌, ℕ, List, OnOk, OnErr, IfOk};
+ghost use Rattle.std.specs.Prelude.{◌≢◌, OnOk, OnErr};
 ghost use Rattle.hold_files.specs.Told.{GoesOn};
-ghost use Rattle.hold_cli.specs.Answer.{refusal_line, only_line, repair_texts};
+ghost use Rattle.hold_cli.specs.Answer.{only_line, repair_texts};
 ghost use Rattle.hold_cli.specs.Texts.{IsDone, Fails, FailsInLine};
 
 use crate::job_form::Job;
-use crate::outcome::Fault;
-use hold_base::Memory;
 use hold_files::{Failed, Files, say_whole, write_whole};
-use std::alloc::Global;
 
 /// What is said where the words are no command.
 pub const USAGE: &[u8] = b"usage: hold repair JOB, check JOB, report JOB, apply JOB or trial N\n";
@@ -17,26 +14,6 @@ const REPAIRED: &[u8] = b"repaired cost 0\n";
 /// The certificate of a netlist that meets every check as it is: no buffer costs nothing, and nothing
 /// costs less.
 const WHOLE: &[u8] = b"hold-certificate 1\nrepaired 0\nleaf 1\nend\n";
-
-/// The line that says why an input is refused.
-pub fn line_of(alloc: Global, fault: &Fault) -> Result<Vec<u8>, Memory>
-    ensures { IfOk result (λ line. line.items ≡ refusal_line fault.now) }
-{
-    let mut line = Vec::new(alloc);
-    let name = match fault {
-        Fault::TooLong(name) => {
-            line.extend_from_slice(b"input toolong ")?;
-            name
-        }
-        Fault::NotBuilt(name) => {
-            line.extend_from_slice(b"input notbuilt ")?;
-            name
-        }
-    };
-    line.extend_from_slice(name.bytes())?;
-    line.extend_from_slice(b"\n")?;
-    Ok(line)
-}
 
 /// Says the line of an answer that writes no file.
 pub fn say_line<F: Files>(files: &mut F, line: &[u8]) -> Result<(), Failed>

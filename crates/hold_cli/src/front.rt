@@ -1,20 +1,21 @@
-ghost use Rattle.std.specs.Prelude.{◌≡◌, ◌⊎◌, ℕ, List, Some, IfOk, IfSome, IfNone, IsErrOf};
+ghost use Rattle.std.specs.Prelude.{◌≡◌, ◌⊎◌, ℕ, List, Some, IfOk, IfSome, IfNone, OnOk, IsErrOf};
 ghost use Rattle.hold_files.specs.Told.{Rose, OnlyReads};
 ghost use Rattle.hold_cli.specs.declared.outcome.Fault.{Fault as Refusal};
 ghost use Rattle.hold_cli.specs.declared.job_form.Job.{Job as JobData};
 ghost use Rattle.hold_cli.specs.JobForm.{IsJobText};
 ghost use Rattle.hold_graph.specs.Graph.{EndsOnce};
 ghost use Rattle.hold_graph.specs.Problem.{IsValid};
-ghost use Rattle.hold_netlist.specs.CanonicalText.{canonical_text};
 ghost use Rattle.hold_plain.specs.Limits.{KeepsLimits};
 ghost use Rattle.hold_plain.specs.Problem.{problem_of};
-ghost use Rattle.hold_cli.specs.Front.{IsBuilt, IsOnlyReading, IsBuiltText, HasText, IsJobAt, IsJobRead, named_by, ComesTo, IsTold, RefusesJob, RefusesNetlist, Refuses, IsFront};
+ghost use Rattle.hold_cli.specs.Front.{IsBuilt, HasOneReading, HasText, IsJobAt, IsNetlistAt, HoldsOneReading, IsJobRead, IsNetlistRead, BlamesNetlist, ComesTo, ComesToRead, IsTold, RefusesText, RefusesJob, RefusesNetlist, Refuses, IsFront};
+ghost use Rattle.hold_vparse.specs.Reads.{Reads};
 
-use crate::canonical;
 use crate::input::{Stopped, read_input};
 use crate::job_form::{self, Job};
 use crate::outcome::Fault;
-use hold_base::{Memory, Name};
+use crate::parsed::parse;
+use crate::scalar::is_scalar;
+use hold_base::{Memory, Name, Stop};
 use hold_files::Files;
 use hold_graph::Problem;
 use hold_netlist::Netlist;
@@ -25,8 +26,6 @@ use std::alloc::Global;
 #[derive(Drop)]
 pub struct Built {
     pub netlist: Netlist,
-    /// Its canonical text.
-    pub text: Vec<u8>,
     /// Its timing problem.
     pub problem: Problem,
 }
@@ -41,9 +40,8 @@ pub struct Front {
 /// Reads the job and then the netlist that it names, and stops at the first refusal.
 pub fn read_front<F: Files>(alloc: Global, files: &mut F, name: &Name) -> Result<Front, Stopped>
     ensures job { IfOk result (λ front. IsJobRead (F.told files.old) name.now front.job) }
+    ensures netlist { IfOk result (λ front. IsNetlistRead (F.told files.old) front.job front.built.netlist) }
     ensures built { IfOk result (λ front. IsBuilt front.job front.built.netlist) }
-    ensures spelled { IfOk result (λ front. front.built.text.items ≡ canonical_text front.built.netlist) }
-    ensures only { IfOk result (λ front. IsOnlyReading front.job front.built.netlist) }
     ensures problem { IfOk result (λ front. front.built.problem ≡ problem_of front.job.timing front.built.netlist) }
     ensures valid { IfOk result (λ front. IsValid front.built.problem) }
     ensures once { IfOk result (λ front. EndsOnce front.built.problem.graph.arcs) }
@@ -55,9 +53,14 @@ pub fn read_front<F: Files>(alloc: Global, files: &mut F, name: &Name) -> Result
         → (F.told files.old).content name.now ≡ Some text
         → RefusesJob (F.told files.old) name.now fault
         ⊎ ((job : JobData) × IsJobAt (F.told files.old) name.now job
-        × (named_by fault ≡ job.netlist)) }
+        × BlamesNetlist (F.told files.old) job fault) }
+    ensures one { OnOk result (HoldsOneReading (F.told files.old) name.now) }
+    ensures one_refused { (fault : Refusal) → IsErrOf result (Stopped.Refused fault)
+        → HoldsOneReading (F.told files.old) name.now }
     ensures read { (file : List ℕ) → IsErrOf result (Stopped.Read file)
         → Rose ((F.told files.old).read_faults file) ((F.told files.new).read_faults file) }
+    ensures named { (file : List ℕ) → IsErrOf result (Stopped.Read file)
+        → ComesToRead (F.told files.old) name.now file }
     ensures comes { (file text : List ℕ) → IsErrOf result (Stopped.Read file)
         → (F.told files.old).content name.now ≡ Some text
         → ComesTo (F.told files.old) name.now file }
@@ -97,60 +100,78 @@ fn read_job<F: Files>(alloc: Global, files: &mut F, name: &Name) -> Result<Job, 
 
 fn read_netlist<F: Files>(alloc: Global, files: &mut F, job: &Job) -> Result<Built, Stopped>
     requires limits { KeepsLimits job.now.timing }
+    ensures netlist { IfOk result (λ built. IsNetlistRead (F.told files.old) job.now built.netlist) }
     ensures built { IfOk result (λ built. IsBuilt job.now built.netlist) }
-    ensures spelled { IfOk result (λ built. built.text.items ≡ canonical_text built.netlist) }
-    ensures only { IfOk result (λ built. IsOnlyReading job.now built.netlist) }
     ensures problem { IfOk result (λ built. built.problem ≡ problem_of job.now.timing built.netlist) }
     ensures valid { IfOk result (λ built. IsValid built.problem) }
     ensures once { IfOk result (λ built. EndsOnce built.problem.graph.arcs) }
     ensures found { IfOk result (λ built. (text : List ℕ)
         → (F.told files.old).content job.now.netlist ≡ Some text
-        → HasText (F.told files.old) job.now.netlist (canonical_text built.netlist)) }
-    ensures named { (fault : Refusal) → IsErrOf result (Stopped.Refused fault)
-        → named_by fault ≡ job.now.netlist }
+        → IsNetlistAt (F.told files.old) job.now built.netlist) }
+    ensures blamed { (fault : Refusal) → IsErrOf result (Stopped.Refused fault)
+        → BlamesNetlist (F.told files.old) job.now fault }
     ensures refused { (fault : Refusal) → IsErrOf result (Stopped.Refused fault) → (text : List ℕ)
         → (F.told files.old).content job.now.netlist ≡ Some text
         → RefusesNetlist (F.told files.old) job.now fault }
+    ensures one { OnOk result ((text : List ℕ) → HasText (F.told files.old) job.now.netlist text → HasOneReading text) }
+    ensures one_refused { (fault : Refusal) → IsErrOf result (Stopped.Refused fault) → (text : List ℕ)
+        → HasText (F.told files.old) job.now.netlist text → HasOneReading text }
     ensures read { (file : List ℕ) → IsErrOf result (Stopped.Read file) → file ≡ job.now.netlist }
     ensures cause { (file : List ℕ) → IsErrOf result (Stopped.Read file)
         → Rose ((F.told files.old).read_faults job.now.netlist) ((F.told files.new).read_faults job.now.netlist) }
     ensures stays { OnlyReads (F.told files.old) (F.told files.new) }
 {
     let text = read_input(alloc, files, &job.netlist)?;
-    let found = build(alloc, job, text.as_slice())?;
-    match found {
-        Some((netlist, problem)) => Ok(Built {
-            netlist,
-            text,
-            problem,
-        }),
-        None => {
-            let stopped = not_built(&job.netlist)?;
-            Err(stopped)
-        }
+    match build(alloc, job, text.as_slice()) {
+        Ok(built) => Ok(built),
+        Err(stopped) => Err(stopped),
     }
 }
 
-/// The netlist whose canonical text this is, with its timing problem; None exactly where the text is that of no
-/// netlist that is served for the job.
-fn build(alloc: Global, job: &Job, text: &[u8]) -> Result<Option<(Netlist, Problem)>, Memory>
+/// The netlist that this text declares, with its timing problem; a refusal where the text isn't read, or its
+/// netlist isn't served for the job.
+fn build(alloc: Global, job: &Job, text: &[u8]) -> Result<Built, Stopped>
     requires limits { KeepsLimits job.now.timing }
-    ensures built { IfOk result (λ found. IfSome found (λ built. IsBuilt job.now built.0)) }
-    ensures spelled { IfOk result (λ found. IfSome found (λ built. text.now ≡ canonical_text built.0)) }
-    ensures only { IfOk result (λ found. IfSome found (λ built. IsOnlyReading job.now built.0)) }
-    ensures problem { IfOk result (λ found. IfSome found (λ built. built.1 ≡ problem_of job.now.timing built.0)) }
-    ensures valid { IfOk result (λ found. IfSome found (λ built. IsValid built.1)) }
-    ensures once { IfOk result (λ found. IfSome found (λ built. EndsOnce built.1.graph.arcs)) }
-    ensures none { IfOk result (λ found. IfNone found (IsBuiltText job.now text.now → ⊥)) }
+    ensures reads { IfOk result (λ built. Reads text.now built.netlist) }
+    ensures built { IfOk result (λ built. IsBuilt job.now built.netlist) }
+    ensures problem { IfOk result (λ built. built.problem ≡ problem_of job.now.timing built.netlist) }
+    ensures valid { IfOk result (λ built. IsValid built.problem) }
+    ensures once { IfOk result (λ built. EndsOnce built.problem.graph.arcs) }
+    ensures refused { (fault : Refusal) → IsErrOf result (Stopped.Refused fault)
+        → RefusesText job.now text.now fault }
+    ensures one { OnOk result (HasOneReading text.now) }
+    ensures one_refused { (fault : Refusal) → IsErrOf result (Stopped.Refused fault) → HasOneReading text.now }
+    ensures unread { (file : List ℕ) → IsErrOf result (Stopped.Read file) → ⊥ }
 {
-    let Some(netlist) = canonical::read(alloc, text)? else {
-        return Ok(None);
+    let netlist = match parse(alloc, text) {
+        Ok(netlist) => netlist,
+        Err(Stop::Memory) => return Err(Stopped::Memory),
+        Err(Stop::Fault(fault)) => return Err(Stopped::Refused(Fault::Verilog(fault))),
     };
-    netlist.know_valid();
-    match problem(alloc, &job.timing, &netlist)? {
-        Some(problem) => Ok(Some((netlist, problem))),
-        None => Ok(None),
+    match plain_problem(alloc, job, &netlist) {
+        Ok(Some(problem)) => Ok(Built { netlist, problem }),
+        Ok(None) => match not_built(&job.netlist) {
+            Ok(stopped) => Err(stopped),
+            Err(Memory) => Err(Stopped::Memory),
+        },
+        Err(Memory) => Err(Stopped::Memory),
     }
+}
+
+/// The timing problem of a netlist, None exactly where the netlist isn't served for the job.
+fn plain_problem(alloc: Global, job: &Job, netlist: &Netlist) -> Result<Option<Problem>, Memory>
+    requires limits { KeepsLimits job.now.timing }
+    ensures built { IfOk result (λ found. IfSome found (λ problem. IsBuilt job.now netlist.now)) }
+    ensures is { IfOk result (λ found. IfSome found (λ problem. problem ≡ problem_of job.now.timing netlist.now)) }
+    ensures valid { IfOk result (λ found. IfSome found (λ problem. IsValid problem)) }
+    ensures once { IfOk result (λ found. IfSome found (λ problem. EndsOnce problem.graph.arcs)) }
+    ensures none { IfOk result (λ found. IfNone found (IsBuilt job.now netlist.now → ⊥)) }
+{
+    netlist.know_valid();
+    if !is_scalar(netlist) {
+        return Ok(None);
+    }
+    problem(alloc, &job.timing, netlist)
 }
 
 /// The refusal of the file of this name, whose form isn't served.

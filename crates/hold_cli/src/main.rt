@@ -3,13 +3,15 @@
 #![tactic(auto)]
 
 mod answer;
-mod canonical;
 mod command;
 mod front;
 mod input;
 mod job_form;
 mod outcome;
 mod padding;
+mod parsed;
+mod refusal;
+mod scalar;
 mod top;
 
 use hold_base::{Memory, Name};

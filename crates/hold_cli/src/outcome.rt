@@ -3,6 +3,7 @@ ghost use Rattle.hold_cli.specs.Outcome.{status_of};
 
 use hold_base::Name;
 use hold_graph::Listed;
+use hold_vparse::VerilogFault;
 use thiserror::Error;
 
 /// Why an input is refused.
@@ -11,6 +12,9 @@ pub enum Fault {
     /// The file of this name has more than 2^26 bytes.
     #[error("an input file is too long")]
     TooLong(Name),
+    /// The netlist's text isn't read, for this fault.
+    #[error("the netlist isn't in the profile of Verilog that is read")]
+    Verilog(VerilogFault),
     /// The file of this name is outside the form that is served today.
     #[error("an input file is outside the form that is served")]
     NotBuilt(Name),

@@ -1,4 +1,9 @@
+mod lengths;
+mod limits;
+mod outside;
 mod timed;
+mod verilog;
+mod words;
 
 use crate::outcome::{Fault, Outcome, status};
 use crate::top::run;
@@ -96,8 +101,20 @@ fn run_over(
     fails: Fails,
 ) -> Result<Ran, Fail> {
     let words = words_of(alloc, name)?;
+    run_with(alloc, words.as_slice(), job, netlist, room, fails)
+}
+
+/// A run of these words.
+fn run_with(
+    alloc: Global,
+    words: &[Name],
+    job: &[u8],
+    netlist: &[u8],
+    room: usize,
+    fails: Fails,
+) -> Result<Ran, Fail> {
     let mut files = files_with(alloc, job, netlist, room, fails)?;
-    let outcome = run(alloc, words.as_slice(), &mut files);
+    let outcome = run(alloc, words, &mut files);
     let said = Vec::from_slice(alloc, files.said())?;
     let certificate = content(alloc, &mut files, b"e.cert")?;
     let output = content(alloc, &mut files, b"e_out.v")?;
@@ -152,7 +169,7 @@ fn a_missing_job_is_a_read_fault(rt: HostRuntime) -> Result<(), Fail> {
 
 #[test]
 fn another_netlist_is_not_built(rt: HostRuntime) -> Result<(), Fail> {
-    let ran = ran_well(rt.alloc(), b"e.toml", b"module m();\nendmodule")?;
+    let ran = ran_well(rt.alloc(), b"e.toml", b"module m; wire [1:0] a; endmodule")?;
     assert_eq!(rt; status(&ran.outcome), 3);
     assert_eq!(rt;
         ran.outcome,

@@ -4,7 +4,7 @@ ghost use Rattle.hold_cli.specs.declared.outcome.Outcome.{Outcome as Answer};
 ghost use Rattle.hold_cli.specs.declared.outcome.Fault.{Fault as Refusal};
 ghost use Rattle.hold_cli.specs.Outcome.{GivesUp};
 ghost use Rattle.hold_cli.specs.Command.{IsRepair};
-ghost use Rattle.hold_cli.specs.Front.{IsJobAt, IsJobRead, IsBuilt, named_by, ComesTo, IsTold, RefusesJob, Refuses, IsFront};
+ghost use Rattle.hold_cli.specs.Front.{IsJobAt, IsJobRead, IsNetlistRead, IsBuilt, BlamesNetlist, ComesTo, ComesToRead, IsTold, RefusesJob, Refuses, IsFront};
 ghost use Rattle.hold_netlist.specs.Design.{Design};
 ghost use Rattle.hold_netlist.specs.CanonicalText.{canonical_text};
 ghost use Rattle.hold_cli.specs.declared.job_form.Job.{Job as JobData};
@@ -14,19 +14,23 @@ ghost use Rattle.hold_graph.specs.Problem.{IsValid};
 ghost use Rattle.hold_graph.specs.Sums.{no_buffers};
 ghost use Rattle.hold_graph.specs.Met.{IsMet, Misses};
 ghost use Rattle.hold_plain.specs.Problem.{problem_of};
+ghost use Rattle.hold_vparse.specs.Reads.{Reads};
 ghost use Rattle.hold_cli.specs.PaddingLine.{padding_line};
-ghost use Rattle.hold_cli.specs.Answer.{usage_line, refusal_line, only_line, repair_texts, AreTexts, Comes, IsCalm, IsAnswer, IsRefusal, IsDelivery};
+ghost use Rattle.hold_cli.specs.RefusalLine.{refusal_line};
+ghost use Rattle.hold_cli.specs.Answer.{usage_line, only_line, repair_texts, AreTexts, Comes, IsCalm, IsAnswer, IsRefusal, IsDelivery};
 ghost use Rattle.hold_cli.specs.Texts.{Ready, IsDone, Fails, FailsInLine, SaysNothing};
 
-use crate::answer::{USAGE, line_of, say_line, write_repair};
+use crate::answer::{USAGE, say_line, write_repair};
 use crate::command::repair_job;
 use crate::front::{Front, read_front};
 use crate::input::Stopped;
 use crate::outcome::{Fault, Outcome};
 use crate::padding::padding_line;
+use crate::refusal::refusal_line;
 use hold_base::{Memory, Name};
 use hold_files::{Failed, Files};
 use hold_graph::{Listed, worst_line};
+use hold_vwrite::write;
 use std::alloc::Global;
 
 /// Does the work that the words ask for, over these files, and says one line.
@@ -48,25 +52,29 @@ pub fn run<F: Files>(alloc: Global, words: &[Name], files: &mut F) -> Outcome
     ensures first_refused { (name text : List ℕ) (fault : Refusal) → IsRepair words.now name
         → (F.told files.old).content name ≡ Some text
         → result ≡ Outcome.Input fault → RefusesJob (F.told files.old) name fault
-        ⊎ ((job : JobData) × IsJobAt (F.told files.old) name job × (named_by fault ≡ job.netlist)) }
+        ⊎ ((job : JobData) × IsJobAt (F.told files.old) name job × BlamesNetlist (F.told files.old) job fault) }
     ensures only_refused { (name : List ℕ) (fault : Refusal) → IsRepair words.now name
         → Refuses (F.told files.old) name fault
         → (result ≡ Outcome.Input fault) ⊎ GivesUp result }
     ensures refusal { (fault : Refusal) → result ≡ Outcome.Input fault
         → IsDone (F.told files.old) (F.told files.new) (only_line (refusal_line fault)) }
 
-    // A repair: what is written, where nothing is refused and every path meets its checks.
+    // A repair: what is written, where nothing is refused and every path meets its checks. Read again, it is the
+    // netlist that was read.
     ensures repaired { (name : List ℕ) (cost : ℕ) → IsRepair words.now name
         → IsTold (F.told files.old) name
         → result ≡ Outcome.Repaired cost
         → (job : JobData) × (netlist : Design) × IsFront (F.told files.old) name job netlist × (cost ≡ 0)
         × IsMet (problem_of job.timing netlist) no_buffers
-        × IsDone (F.told files.old) (F.told files.new) (repair_texts job (canonical_text netlist)) }
+        × IsDone (F.told files.old) (F.told files.new) (repair_texts job (canonical_text netlist))
+        × Reads (canonical_text netlist) netlist }
     ensures repaired_texts { (name : List ℕ) (cost : ℕ) → IsRepair words.now name
         → result ≡ Outcome.Repaired cost
-        → (job : JobData) × (netlist : Design) × IsJobRead (F.told files.old) name job × IsBuilt job netlist × (cost ≡ 0)
+        → (job : JobData) × (netlist : Design) × IsJobRead (F.told files.old) name job
+        × IsNetlistRead (F.told files.old) job netlist × IsBuilt job netlist × (cost ≡ 0)
         × IsMet (problem_of job.timing netlist) no_buffers
-        × IsDone (F.told files.old) (F.told files.new) (repair_texts job (canonical_text netlist)) }
+        × IsDone (F.told files.old) (F.told files.new) (repair_texts job (canonical_text netlist))
+        × Reads (canonical_text netlist) netlist }
     ensures only_repaired { (name : List ℕ) (job : JobData) (netlist : Design)
         → IsRepair words.now name
         → IsFront (F.told files.old) name job netlist
@@ -82,7 +90,8 @@ pub fn run<F: Files>(alloc: Global, words: &[Name], files: &mut F) -> Outcome
         × IsDone (F.told files.old) (F.told files.new) (only_line (padding_line job netlist path short)) }
     ensures padding_said { (name : List ℕ) (path : Path) (short : ℤ) → IsRepair words.now name
         → result ≡ Outcome.NeedsPadding path short
-        → (job : JobData) × (netlist : Design) × IsJobRead (F.told files.old) name job × IsBuilt job netlist
+        → (job : JobData) × (netlist : Design) × IsJobRead (F.told files.old) name job
+        × IsNetlistRead (F.told files.old) job netlist × IsBuilt job netlist
         × Misses (problem_of job.timing netlist) no_buffers path short
         × IsDone (F.told files.old) (F.told files.new) (only_line (padding_line job netlist path short)) }
     ensures only_needs_padding { (name : List ℕ) (job : JobData) (netlist : Design)
@@ -101,6 +110,8 @@ pub fn run<F: Files>(alloc: Global, words: &[Name], files: &mut F) -> Outcome
     // A file that can't be read.
     ensures read_fault { (file : List ℕ) → result ≡ Outcome.ReadFault file
         → Rose ((F.told files.old).read_faults file) ((F.told files.new).read_faults file) }
+    ensures read_named { (name file : List ℕ) → IsRepair words.now name
+        → result ≡ Outcome.ReadFault file → ComesToRead (F.told files.old) name file }
     ensures read_comes { (name text file : List ℕ) → IsRepair words.now name
         → (F.told files.old).content name ≡ Some text
         → result ≡ Outcome.ReadFault file → ComesTo (F.told files.old) name file }
@@ -158,7 +169,6 @@ fn repair<F: Files>(alloc: Global, name: &Name, files: &mut F) -> Outcome
 /// Checks the netlist as it is, and answers what comes of that.
 fn deliver<F: Files>(alloc: Global, files: &mut F, front: &Front) -> Outcome
     requires apart { front.now.job.certificate ≢ front.now.job.output }
-    requires spelled { front.now.built.text.items ≡ canonical_text front.now.built.netlist }
     requires problem { front.now.built.problem ≡ problem_of front.now.job.timing front.now.built.netlist }
     requires valid { IsValid front.now.built.problem }
     requires once { EndsOnce front.now.built.problem.graph.arcs }
@@ -166,23 +176,25 @@ fn deliver<F: Files>(alloc: Global, files: &mut F, front: &Front) -> Outcome
     ensures goes_on { GoesOn (F.told files.old) (F.told files.new) }
 {
     match worst_line(alloc, &front.built.problem) {
-        Ok(None) => write_netlist(files, front),
+        Ok(None) => write_netlist(alloc, files, front),
         Ok(Some((path, short))) => ask_padding(alloc, files, front, path, short),
         Err(Memory) => Outcome::Memory,
     }
 }
 
 /// Writes the netlist as it is, with its certificate.
-fn write_netlist<F: Files>(files: &mut F, front: &Front) -> Outcome
+fn write_netlist<F: Files>(alloc: Global, files: &mut F, front: &Front) -> Outcome
     requires apart { front.now.job.certificate ≢ front.now.job.output }
-    requires spelled { front.now.built.text.items ≡ canonical_text front.now.built.netlist }
     requires met { IsMet (problem_of front.now.job.timing front.now.built.netlist) no_buffers }
     ensures answer { IsDelivery (F.told files.old) (F.told files.new) front.now.job front.now.built.netlist result }
     ensures goes_on { GoesOn (F.told files.old) (F.told files.new) }
 {
-    match write_repair(files, &front.job, front.built.text.as_slice()) {
-        Ok(()) => Outcome::Repaired { cost: 0 },
-        Err(Failed) => Outcome::WriteFault,
+    match write(alloc, &front.built.netlist) {
+        Ok(text) => match write_repair(files, &front.job, text.as_slice()) {
+            Ok(()) => Outcome::Repaired { cost: 0 },
+            Err(Failed) => Outcome::WriteFault,
+        },
+        Err(Memory) => Outcome::Memory,
     }
 }
 
@@ -211,7 +223,7 @@ fn refuse<F: Files>(alloc: Global, files: &mut F, fault: Fault) -> Outcome
     ensures answer { IsRefusal (F.told files.old) (F.told files.new) fault result }
     ensures goes_on { GoesOn (F.told files.old) (F.told files.new) }
 {
-    match line_of(alloc, &fault) {
+    match refusal_line(alloc, &fault) {
         Ok(line) => match say_line(files, line.as_slice()) {
             Ok(()) => Outcome::Input(fault),
             Err(Failed) => Outcome::WriteFault,

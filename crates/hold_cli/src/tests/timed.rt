@@ -1,6 +1,8 @@
 //! Runs over netlists with instances: a path that needs padding, netlists that need none, and those that
 //! aren't served.
 
+use super::limits::more_than_is_served_is_refused;
+use super::outside::{BODIES, JOB_HEAD, JOBS, LINES, SERVED_BODIES, SERVED_LINES};
 use super::{CERTIFICATE, NETLIST, Ran, fails_at, run_over};
 use crate::outcome::{Outcome, status};
 use hold_base::Memory;
@@ -39,8 +41,16 @@ const GAPS: &[u8] =
     b"[[type]]\nname = \"SLOW\"\nrole = \"register\"\nclock = \"C\"\ndata = [\"D\"]\noutputs = [\"Q\"]\nchecks = [{ pin = \"D\", setup = [40], hold = [30] }]\n[[type]]\nname = \"LOOSE\"\nrole = \"register\"\nclock = \"C\"\ndata = [\"D\"]\noutputs = [\"Q\"]\narcs = [{ from = \"C\", to = \"Q\", spans = [[100, 120]] }]\n";
 
 /// Two registers with an inverter between them.
-const LINE: &[u8] =
+pub(super) const LINE: &[u8] =
     b"module e(clk, y);\n  input clk;\n  output y;\n  wire a;\n  wire b;\n  DFF u1(.C(clk), .D(1'b0), .Q(a));\n  INV u2(.A(a), .Y(b));\n  DFF u3(.C(clk), .D(b), .Q(y));\nendmodule\n";
+
+/// The same in another layout, with comments and an attribute.
+const FREE_LINE: &[u8] =
+    b"// two registers\nmodule e /* a line */ (clk,\ty);\r\ninput clk; output y; wire a, b;\n(* keep = \"*)\" *) DFF u1 ( .C(clk), .D(1'h0), .Q ( a ) ); INV u2(.A(a),.Y(b)); DFF \\u3 (.C(clk), .D(b), .Q(y)); endmodule // end";
+
+/// The same with an instance and a wire whose names have to be escaped.
+const ESCAPED_LINE: &[u8] =
+    b"module e(clk, y);\n  input clk;\n  output y;\n  wire a;\n  wire \\wire ;\n  DFF u1(.C(clk), .D(1'b0), .Q(a));\n  INV \\u[3] (.A(a), .Y(\\wire ));\n  DFF u3(.C(clk), .D(\\wire ), .Q(y));\nendmodule\n";
 
 /// The text of a module with an input and an output, up to what is in it.
 const HEAD: &[u8] = b"module i(a, y);\n  input a;\n  output y;\n";
@@ -50,51 +60,6 @@ const END: &[u8] = b"endmodule\n";
 const NETLIST_REFUSED: &[u8] = b"input notbuilt e.v\n";
 
 const JOB_REFUSED: &[u8] = b"input notbuilt e.toml\n";
-
-/// What stands in modules that aren't served, one for each way.
-static BODIES: [&[u8]; 15] = [
-    // No canonical layout, an escaped name, a vector, an assignment.
-    b"   INV u1(.A(a), .Y(y));\n",
-    b"  INV \\u[1] (.A(a), .Y(y));\n",
-    b"  wire [3:0] b;\n",
-    b"  assign y = a;\n",
-    // A type that isn't listed, and a pin that its type hasn't.
-    b"  OR u1(.A(a), .Y(y));\n",
-    b"  INV u1(.A(a), .Z(y));\n",
-    // An output tied to a constant, and nets with two drivers.
-    b"  INV u1(.A(a), .Y(1'b0));\n",
-    b"  INV u1(.A(a), .Y(y));\n  INV u2(.A(a), .Y(y));\n",
-    b"  INV u1(.A(y), .Y(a));\n",
-    // Two connected inputs.
-    b"  AND u1(.A(a), .B(1'b1), .Y(y));\n",
-    // A gate that is driven by itself, and one that a later one drives.
-    b"  INV u1(.A(y), .Y(y));\n",
-    b"  wire b;\n  INV u1(.A(b), .Y(y));\n  INV u2(.A(a), .Y(b));\n",
-    // A delay of a gate or of a register that the job hasn't, and a check.
-    b"  AND u1(.B(a), .Y(y));\n",
-    b"  SLOW u1(.C(a), .D(1'b0), .Q(y));\n",
-    b"  LOOSE u1(.C(a), .D(1'b0), .Q(y));\n",
-];
-
-/// Keys that no job of the form has, and a value outside its range.
-static LINES: [&[u8]; 7] = [
-    b"plan = \"p\"\n",
-    b"nodes = 1\n",
-    b"searchers = 1\n",
-    b"order = 1\n",
-    b"keep = []\n",
-    b"perid = 1\n",
-    b"arrival = [[1, 0]]\n",
-];
-
-/// What no job of the form has after its types.
-static TABLES: [&[u8]; 5] = [
-    b"[[corner]]\nname = \"slow\"\n",
-    b"[[type]]\nname = \"LATCH\"\nrole = \"opaque\"\n",
-    b"[[type]]\nname = \"R\"\nrole = \"register\"\nclock = \"C\"\nquiet = [\"R\"]\n",
-    b"[[type]]\nname = \"N\"\nrole = \"comb\"\nchecks = []\n",
-    b"[[clock]]\ninst = \"u3\"\n",
-];
 
 /// A job with this line at its top and this table at its end.
 fn job_with(alloc: Global, line: &[u8], table: &[u8]) -> Result<Vec<u8>, Memory> {
@@ -184,6 +149,44 @@ fn a_netlist_without_registers_needs_none(rt: HostRuntime) -> Result<(), Fail> {
     is_repaired(&rt, rt.alloc(), job.as_slice(), NETLIST, CERTIFICATE)
 }
 
+/// The netlist is written in this layout, at no cost.
+fn is_laid_out(
+    rt: &impl Abort,
+    alloc: Global,
+    job: &[u8],
+    netlist: &[u8],
+    layout: &[u8],
+) -> Result<(), Fail> {
+    let ran = ran(alloc, job, netlist)?;
+    assert_eq!(rt; ran.outcome, Outcome::Repaired { cost: 0 });
+    assert_eq!(rt; ran.output.as_slice(), layout);
+    Ok(())
+}
+
+#[test]
+fn the_layout_of_the_text_is_free(rt: HostRuntime) -> Result<(), Fail> {
+    let alloc = rt.alloc();
+    let late = job_with(alloc, ARRIVAL, LATE_CLOCK)?;
+    let line = b"needs padding 180 early typ u1/Q u2/A u2/Y u3/D\n".as_slice();
+    only_says(&rt, alloc, late.as_slice(), FREE_LINE, 9, line)?;
+    let early = job_with(alloc, ARRIVAL, EARLY_CLOCK)?;
+    is_laid_out(&rt, alloc, early.as_slice(), FREE_LINE, LINE)?;
+    let unclocked = job_with(alloc, ARRIVAL, b"")?;
+    is_laid_out(
+        &rt,
+        alloc,
+        unclocked.as_slice(),
+        b"module m; endmodule",
+        NETLIST,
+    )
+}
+
+#[test]
+fn a_name_is_escaped_where_it_has_to_be(rt: HostRuntime) -> Result<(), Fail> {
+    let job = job_with(rt.alloc(), ARRIVAL, EARLY_CLOCK)?;
+    is_repaired(&rt, rt.alloc(), job.as_slice(), ESCAPED_LINE, CERTIFICATE)
+}
+
 /// A module with this body isn't served.
 fn refuses_body(rt: &impl Abort, alloc: Global, table: &[u8], body: &[u8]) -> Result<(), Fail> {
     let job = job_with(alloc, ARRIVAL, table)?;
@@ -198,10 +201,52 @@ fn refuses_body(rt: &impl Abort, alloc: Global, table: &[u8], body: &[u8]) -> Re
     )
 }
 
-/// A job with this line and this table is none.
-fn refuses_job(rt: &impl Abort, alloc: Global, line: &[u8], table: &[u8]) -> Result<(), Fail> {
-    let job = job_with(alloc, line, table)?;
+/// A module with this body is served, and needs nothing.
+fn serves_body(rt: &impl Abort, alloc: Global, body: &[u8]) -> Result<(), Fail> {
+    let job = job_with(alloc, ARRIVAL, b"")?;
+    let netlist = module_with(alloc, body)?;
+    is_repaired(rt, alloc, job.as_slice(), netlist.as_slice(), CERTIFICATE)
+}
+
+/// A job of the form is one with this line at its end too.
+fn serves_line(rt: &impl Abort, alloc: Global, line: &[u8]) -> Result<(), Fail> {
+    let mut job = Vec::from_slice(alloc, JOB_HEAD)?;
+    job.extend_from_slice(line)?;
+    is_repaired(rt, alloc, job.as_slice(), NETLIST, CERTIFICATE)
+}
+
+/// The text, with more letters than a name may have for each `@`.
+fn with_letters(alloc: Global, text: &[u8]) -> Result<Vec<u8>, Memory> {
+    let mut out = Vec::new(alloc);
+    for byte in text {
+        if *byte == b'@' {
+            put_letters(&mut out)?;
+        } else {
+            out.push(*byte)?;
+        }
+    }
+    Ok(out)
+}
+
+/// Appends one letter more than a name may have.
+fn put_letters(out: &mut Vec<u8>) -> Result<(), Memory> {
+    for _ in 0..4097 {
+        out.push(b'n')?;
+    }
+    Ok(())
+}
+
+/// This text is no job of the form.
+fn refuses_job(rt: &impl Abort, alloc: Global, text: &[u8]) -> Result<(), Fail> {
+    let job = with_letters(alloc, text)?;
     only_says(rt, alloc, job.as_slice(), NETLIST, 3, JOB_REFUSED)
+}
+
+/// A job of the form is none with this line at its end.
+fn refuses_line(rt: &impl Abort, alloc: Global, line: &[u8]) -> Result<(), Fail> {
+    let mut text = Vec::from_slice(alloc, JOB_HEAD)?;
+    text.extend_from_slice(line)?;
+    refuses_job(rt, alloc, text.as_slice())
 }
 
 /// Clocks of a gate and of nothing aren't served, nor a register at which no clock arrives.
@@ -209,7 +254,17 @@ fn refuses_clocks(rt: &impl Abort, alloc: Global) -> Result<(), Fail> {
     refuses_body(rt, alloc, LATE_CLOCK, b"  INV u3(.A(a), .Y(y));\n")?;
     refuses_body(rt, alloc, LATE_CLOCK, b"")?;
     let job = job_with(alloc, b"", LATE_CLOCK)?;
-    only_says(rt, alloc, job.as_slice(), LINE, 3, NETLIST_REFUSED)
+    only_says(rt, alloc, job.as_slice(), LINE, 3, NETLIST_REFUSED)?;
+    let unclocked = job_with(alloc, b"", b"")?;
+    let netlist = module_with(alloc, b"  DFF u1();\n")?;
+    only_says(
+        rt,
+        alloc,
+        unclocked.as_slice(),
+        netlist.as_slice(),
+        3,
+        NETLIST_REFUSED,
+    )
 }
 
 #[test]
@@ -219,11 +274,35 @@ fn jobs_and_netlists_outside_the_form_are_refused(rt: HostRuntime) -> Result<(),
         refuses_body(&rt, alloc, b"", body)?;
     }
     refuses_clocks(&rt, alloc)?;
-    for line in &LINES {
-        refuses_job(&rt, alloc, line, b"")?;
+    for job in &JOBS {
+        refuses_job(&rt, alloc, job)?;
     }
-    for table in &TABLES {
-        refuses_job(&rt, alloc, b"", table)?;
+    is_repaired(&rt, alloc, JOB_HEAD, NETLIST, CERTIFICATE)?;
+    for line in &LINES {
+        refuses_line(&rt, alloc, line)?;
+    }
+    more_than_is_served_is_refused(&rt, alloc)
+}
+
+#[test]
+fn jobs_and_netlists_just_within_the_form_are_served(rt: HostRuntime) -> Result<(), Fail> {
+    let alloc = rt.alloc();
+    for body in &SERVED_BODIES {
+        serves_body(&rt, alloc, body)?;
+    }
+    for line in &SERVED_LINES {
+        serves_line(&rt, alloc, line)?;
+    }
+    Ok(())
+}
+
+#[test]
+fn a_job_is_refused_before_its_netlist(rt: HostRuntime) -> Result<(), Fail> {
+    let alloc = rt.alloc();
+    let job = job_with(alloc, b"nodes = 1\n", b"")?;
+    let unserved = module_with(alloc, b"  wire [3:0] b;\n")?;
+    for netlist in [unserved.as_slice(), b"module".as_slice()] {
+        only_says(&rt, alloc, job.as_slice(), netlist, 3, JOB_REFUSED)?;
     }
     Ok(())
 }

@@ -1,5 +1,5 @@
 use Rattle.hold_cli.proofs.Answers.{only_refused, job_stays, netlist_stays}
-use Rattle.hold_cli.proofs.Verdicts.{repaired, repaired_texts, only_repaired, needs_padding, padding_said, only_needs_padding}
+use Rattle.hold_cli.proofs.Verdicts.{repaired, repaired_texts, only_repaired, needs_padding, padding_said, only_needs_padding, write_texts, read_named}
 use Rattle.hold_cli.proofs.Complete.{complete}
 use Rattle.hold_cli.proofs.top.run.Goals as goal
 
@@ -52,3 +52,13 @@ pub returns-in-Some-clause-complete : goal.returns-in-Some-clause-complete
 returns-in-Some-clause-complete g c = λ name job netlist repair front calm.
     complete (g.F.Files.told c.args.files.now) (g.F.Files.told c.repair.new.files) c.args.words.now c.in-Some.name.now name job netlist c.repair.result
     c.in-Some.ensures.found c.repair.ensures.answer repair front calm
+
+pub returns-in-Some-clause-write_texts : goal.returns-in-Some-clause-write_texts
+returns-in-Some-clause-write_texts g c =
+    write_texts (g.F.Files.told c.args.files.now) (g.F.Files.told c.repair.new.files) c.args.words.now c.in-Some.name.now c.repair.result
+    c.in-Some.ensures.found c.repair.ensures.answer
+
+pub returns-in-Some-clause-read_named : goal.returns-in-Some-clause-read_named
+returns-in-Some-clause-read_named g c =
+    read_named (g.F.Files.told c.args.files.now) (g.F.Files.told c.repair.new.files) c.args.words.now c.in-Some.name.now c.repair.result
+    c.in-Some.ensures.found c.repair.ensures.answer

@@ -1,6 +1,0 @@
-use Rattle.hold_netlist.specs.Keywords.{keywords}
-use Rattle.hold_cli.proofs.canonical.keyword.is_keyword.Goals as goal
-
-pub returns : goal.returns
-unfolding keywords
-returns c = c.is_row.ensures
