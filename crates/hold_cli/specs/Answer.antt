@@ -1,4 +1,4 @@
--- usage_line, repaired_line: what is said of an answer.
+-- usage_line, repaired_line: what is said where the words are no command, and of a repair.
 -- whole_certificate: the certificate of a netlist that meets every check as it is: no buffer costs nothing, and one leaf proves that nothing costs less.
 -- only_line: an answer that writes no file.
 -- repair_texts job text: what a repair without buffers writes: the certificate, the netlist's canonical text, and its line.
@@ -6,17 +6,17 @@
 --   check, else a path that misses one, with by how much.
 -- IsBlamed told name fault: where the job's file is told, the fault is one of the job in it, or it is one of that job's netlist.
 -- AreTexts told name ready: the texts are the line of a refusal that is to blame, or those of a verdict on the job that was read from the file `name`.
+-- ComesToVerdict told name outcome ready: nothing is refused, and the outcome and these texts are the verdict on the job and the netlist that the files
+--   hold.
 -- Comes told name outcome ready: the order of work on the job in the file `name` comes to this outcome over these contents, and has these texts
---   ready. It never comes to a file that fails, to want of memory, or to words that are no
---   command.
+--   ready. It never comes to a file that fails, to want of memory, or to words that are no command.
 -- IsCalm old new name job: no count rose of reads of the job or of its netlist, of writes of its outputs, nor of sayings.
 -- IsAnswer old new name outcome: the outcome is right for the repair of the job in the file `name`, begun over the old moment and ended at the new one.
 --   IsJudged: it is the verdict on the job and the netlist that were read, each of its texts was written, and where the files were told, they hold that
---   job and netlist. IsRefused: the line was said, and where the files were
---   told, that fault is the first refusal. IsUnread: the count of failed reads of that file rose, nothing changed, and the work comes to
---   that file. IsUnwritten: another
---   outcome had its texts ready, and one of them failed. But for a failed read
---   and want of memory: where job and netlist are told and within the limit, the netlist's text has one reading.
+--   job and netlist. IsRefused: the line was said, and where the files were told, that fault is the first refusal. IsUnread: the count of failed reads of
+--   that file rose, nothing changed, and the work comes to that file. IsUnwritten: another outcome had its texts ready, and one of them failed. After want
+--   of memory nothing has changed, and that the words are no command is never right. But for a failed read and want of memory: where job and netlist are told and within the limit, the netlist's text has
+--   one reading.
 -- IsRefusal, IsDelivery: what is right once a fault, or a job and its netlist, have been read: the outcome of that, or what may come in its place.
 use Rattle.std.specs.Prelude.{◌≡◌, ◌⊎◌, ℕ, List, [], ◌∷◌, Some, codes}
 use Rattle.hold_files.specs.Told.{Told, Rose}

@@ -3,8 +3,9 @@
 -- keeps_files: whether the files that are written differ from those that are read and from each other.
 -- timing_of: what is known of time: the period, the common clock arrival if there is one, the cell types and the single arrivals.
 -- job_values: what the keys give, each by its own rule.
--- job_of ms own: the job that the members of a document give, where they give one; own is the name of the file that the job stands in.
--- IsJobText text own job: the text is a job, and it is this job. There is at most one.
+-- job_of ms own: the job that the members of a document give, where they give one: by its known keys alone, and with files that are
+--   kept apart; own is the name of the file that the job stands in.
+-- IsJobText text own job: the text is a job, and it is this job: UTF-8 and TOML, whose members give it. There is at most one.
 use Rattle.std.specs.Prelude.{◌≡◌, ℕ, List, codes, Bool, not, ◌&&◌, ◌||◌, if◌then◌else◌, Option, Some, None, bytes_eq, IsUtf8}
 use Rattle.toml.specs.Data.{Members}
 use Rattle.toml.specs.Parse.{parse_document}

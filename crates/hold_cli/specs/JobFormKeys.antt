@@ -8,8 +8,9 @@
 -- text_at, integer_at, array_at: the value at a key, where it is there and is of that kind.
 -- only_item: the item of a list that has exactly one.
 -- each_of read items: what each item of a list gives, in order. Nothing where one of them gives nothing.
--- items_or_none value: the items of a list; none where there is no value.
--- each_at read key ms: the same of the list at a key; no item where the key is missing, and nothing where it holds something else.
+-- items_or_none value: the items of a list; none where there is no value, and nothing where the value is no list.
+-- each_at read key ms: what `each_of` gives of the list at a key; no item where the key is missing, and nothing where it holds something
+--   else.
 use Rattle.std.specs.Prelude.{ℕ, ℤ, List, [], ◌∷◌, codes, Bool, true, false, ◌&&◌, ◌||◌, if◌then◌else◌, Option, Some, None, bytes_eq}
 use Rattle.toml.specs.Data.{Members, no_members, member, get_member, as_str, as_integer, as_array, Data, Items, no_items, item}
 use Rattle.hold_cli.specs.declared.job_form.key.JobTable.{JobTable}

@@ -3,11 +3,13 @@
 -- AllDigits bytes: each byte is one of '0' to '9'; so too where there is none.
 -- number_of bytes: the number that decimal digits write; no digits write 0, and leading zeros count for nothing.
 -- Numeral: the parts of a number: whether it has a minus sign, the digits before the point and those after it (either may be
---   none), and the power of ten that its exponent raises or lowers it by (one of the two is 0; without an exponent both are).
--- IsSign text negative: no sign, a plus or a minus.
+--   none), and the power of ten that its exponent raises or lowers it by (of a number that is spelled one of the two is 0;
+--   without an exponent both are).
+-- IsSign text negative: no sign, a plus or a minus; negative is so of a minus alone.
 -- IsPoint text part: a point, or nothing where no digits stand after it. `5.` has a point and no digits after it.
--- IsPower text raise lower: what stands behind an `e`: a sign or none and one to three digits.
--- IsExponent text raise lower: nothing, or an `e` or `E` and a power.
+-- IsPower text raise lower: what stands behind an `e`: a sign or none and one to three digits. Behind a minus they write lower,
+--   else raise; the other is 0.
+-- IsExponent text raise lower: nothing, and both are 0; or an `e` or `E` and a power.
 -- Spells text n: the text is n's sign, the digits before the point, the point, the digits after it and the exponent, with at
 --   least one digit beside the point; `.` and the empty text spell nothing.
 use Rattle.std.specs.Prelude.{◌≡◌, ℕ, ◌+◌, ◌-◌, ◌*◌, ◌^◌, ◌≤◌, ◌⊎◌, Bool, true, false, if◌then◌else◌, List, [], ◌∷◌, ◌++◌, length}

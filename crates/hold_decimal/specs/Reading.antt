@@ -2,10 +2,10 @@
 --
 -- leading text: how many digits the text begins with.
 -- front_digits text: those digits. after_digits text: what is behind them.
--- begins_with byte text: whether the byte stands first.
+-- begins_with byte text: whether the byte stands first; never in the empty text.
 -- after_sign text: the text without the plus or minus that it may begin with.
 -- part_of text: the digits behind the point that the text begins with; none where it begins otherwise. after_part text: what is
---   behind them.
+--   behind the point and these digits; the whole text where it begins otherwise.
 -- IsCutOff all front back lost: the last `lost` digits are cut off, or all of them where there are fewer.
 -- IsOutward value denominator floor ceiling: the whole numbers beside value / denominator; the two are one where it is whole.
 use Rattle.std.specs.Prelude.{◌≡◌, ℕ, ◌+◌, ◌*◌, ◌<◌, ◌≤◌, ◌⊎◌, Bool, false, if◌then◌else◌, ◌==◌, ◌||◌, List, [], ◌∷◌, ◌++◌, length, take, drop}

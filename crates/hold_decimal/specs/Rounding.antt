@@ -1,6 +1,8 @@
 -- The value of a number, and the whole numbers beside it.
 --
 -- Fraction: a whole number over a denominator; every denominator here is a power of ten.
+-- signed_fraction negative magnitude denominator: the magnitude over the denominator, with a minus where it is negative.
+-- digits_of n: the number's digits before the point and after it, read as one whole number.
 -- fraction_of n scale: the number's exact value times 10 ^ scale: all its digits, with its sign, times the powers that raise it, over
 --   the powers that lower it and one ten for each digit after the point. `-0.0` has the value 0.
 -- IsFloor f n: n is the greatest whole number that is at most f. IsCeiling f n: the least that is at least f.

@@ -1,10 +1,21 @@
--- new_entry text room is_output: a file with that text and no fault.
+-- new_entry text room is_output: a file with that text, which may grow to that room, is an output or not, and has no
+--   fault.
 -- text_in q texts: the first text of that name, or None where no text has it.
 -- is_listed_name q names: whether the name is among them.
--- first_content q texts outputs: the content of the file of that name before any call; None where there is none.
--- entry_in_texts q texts: the file of that name where each first text is a file and no output.
--- entry_with_outputs q outputs room before: the file of that name once these names are outputs: as before where
---   the name is none of them; else an output with the text from before, or empty where there was none.
+-- first_content q texts outputs: the content of the file of that name before any call: its first text, else empty
+--   where it is an output; None where it is neither.
+-- entry_in_texts q texts: the file of that name where each first text is a file and no output; None where no text
+--   has the name.
+-- as_output before room: an output of that room, with the text from before, or empty where there was none, and
+--   without a fault.
+-- entry_with_outputs q outputs room before: the file of that name once these names are outputs: as_output where the
+--   name is one of them, else as before.
+-- IsSet old new name entry: the new entries give that name this file, or none, and each other name what the old
+--   ones give it.
+-- IsTextAdded old new name text: that name got a file with the text, which is no output, if it had no file; each
+--   other name has what it had, and so has that one if it had a file.
+-- IsOutputAdded old new name room: that name has what as_output makes of its file, and each other name has what it
+--   had.
 use Rattle.std.specs.Prelude.{◌≡◌, ℕ, Bool, true, false, List, [], ◌∷◌, Option, Some, None, Vec, option_map, if◌then◌else◌}
 use Rattle.std.specs.Option.{option_or, option_map_or}
 use Rattle.std.specs.Str.{bytes_eq}

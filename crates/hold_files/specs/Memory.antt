@@ -1,15 +1,20 @@
+-- Entries: files in memory, by name.
 -- entry_of entries name: the file of that name, or None where there is none.
--- told_in: what is told of files in memory, given their entries, the bytes said, the counts of all names that
---   have no entry, and the count of sayings.
+-- told_in: what is told of files in memory, given their entries, the bytes said, the counts of failed reads and of
+--   failed writes that all names without an entry share, and the count of failed sayings.
 -- told_of: what MemoryFiles tells. A name without an entry tells no content.
 -- IsOutput m name: there is a file of that name, and it may be written.
 -- IsRoomOf m room: every output, and what is said, may grow to that many bytes.
 -- HasNoFault told: all counts of faults are 0. IsFresh m listed: no call was made yet, and the listed ones are to fail.
--- put_growth, say_growth: how many bytes the next put or saying takes where it doesn't fail.
+-- put_growth m name piece, say_growth m piece: how many bytes of the piece the next put or saying takes where it
+--   doesn't fail; 0 where there is no file of that name.
 -- IsNext old new calls: after one call: the numbers of the next calls are these, and the calls that fail, the
 --   outputs and the rooms are as before.
--- ReadFails, StartFails, PutFails, SayFails: when the next call fails: its number is listed, there is no
---   such file (or it is no output), or the room is used up.
+-- ReadFails m name: the next read of that name fails: its number is listed, or there is no such file.
+-- StartFails m name: the next start of that name fails: its number is listed, or the name is no output.
+-- PutFails m name piece: the next put of that piece fails: its number is listed, the name is no output, or the piece
+--   has bytes and none of them fits.
+-- SayFails m piece: the next saying of that piece fails: its number is listed, or the piece has bytes and none fits.
 use Rattle.std.specs.Prelude.{◌≡◌, ◌⊎◌, ℕ, List, Option, Some, None, IsTrue, IsSomeAnd, Contains, unwrap_or, option_map}
 use Rattle.std.specs.Option.{option_map_or}
 use Rattle.std.specs.Ordering.{nat_cmp}

@@ -12,7 +12,10 @@
 -- KeepsSaid: where the old one tells the bytes said, the new one tells the same.
 -- SameReadFaults, SameWriteFaults: for each name that count is the same.
 -- GoesOn: no count falls, and what is told stays told.
--- OnlyReads, OnlyWrites, OnlySays: what reads, writes of one name, and sayings leave as it was.
+-- OnlyReads: as GoesOn; told contents and the bytes said stay, and no count has changed but those of reads.
+-- OnlyWrites: as GoesOn; told contents of other names and the bytes said stay, and no count has changed but
+--   those of writes.
+-- OnlySays: as GoesOn; told contents stay, and no count has changed but that of sayings.
 use Rattle.std.specs.Prelude.{◌≡◌, ◌≢◌, ◌⊎◌, ◌<◌, ◌≤◌, ℕ, List, [], Option, Some, IsSome}
 
 pub record Told : Type 0 where

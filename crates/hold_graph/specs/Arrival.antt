@@ -7,18 +7,28 @@
 -- least_at pins numbers pin: the least of the numbers at those places where `pins` names the pin, none where there is
 --   no such place.
 -- AreWithin limit table: every number of the table is within the limit.
+-- sum_limit: the greatest magnitude of a sum over a path, 2^55.
 -- AtMost a x: there is a number a, and it is at most x.
 -- extended a w: a plus w, where there is an a.
--- offer arcs weights best place: what the arc at that place brings to the pin that it ends at, none without an arc.
+-- origin arc: the number of the pin that an arc leads from; 0 where there is no arc.
+-- offer arcs weights best place: what the arc at that place brings to the pin that it ends at: the best of the pin that
+--   it leads from, and its weight; none without a place, or where there is no best. A place past the arcs counts as an
+--   arc from pin 0, and one past the weights weighs 0.
 -- IsRight arcs weights starts into best pin: the best at a pin is the lesser of its own start and of what comes there.
--- CameBy best own place by: a walk goes back along the arc at `by`. It begins here where the best is the pin's own start.
+-- CameBy best own place by: a walk goes back along the arc at `by`, which is the place. It begins here, and `by` is none,
+--   where the best is the pin's own start.
 -- coming side arcs spans into best pin: what the arc that ends at a pin brings there, none where no arc does.
 -- signed_steps side arcs spans a rest: the steps of a path from a on with no buffers, as the pass adds them.
--- IsSettled: the tables of one side after the pass: each pin's best is right.
+-- IsSettled: the tables of one side after the pass: each pin's best is right. Each arc has its span and ends at a pin that
+--   is there, at most one ends at each pin, and `into` tells its place.
 -- checks_of side spans: the times that the side's check takes away, hold at the early side and setup at the late one.
--- base_of side problem: what the side adds to every path, the period at the late side and 0 at the early one.
--- left coming end check base: what is left at a capture, none where a part is missing.
--- AreTables: what the tables of one side of a corner have, by pin.
+-- base_of side period: what the side adds to every path, the period at the late side and 0 at the early one.
+-- left coming end check base: what is left at a capture, the sum of these; none where a part is missing.
+-- IsLeastByPin pins listed numbers table: the table has for each of so many pins the least of the numbers at those places
+--   where `listed` names it, none where there is no such place.
+-- AreTables: what the tables of one side of a corner have, by pin: they are settled, where a pin's own start is the least
+--   weight of its launches; and of captures they have the least weight of the arrivals at the other side, and the least
+--   of the negated checks.
 -- left_at: what is left at a capture by these tables.
 -- left_by: the same, by the steps' weights. IsEnough rest: where something is left, it is at least 0.
 -- IsShort side problem spans path short: the path is a checked path whose excess with no buffers is below 0 by `short`.

@@ -1,3 +1,4 @@
+-- AreBelow pins listed: each listed pin is below `pins`.
 -- IsNumbered parts: every pin that a list of the parts names is below `pins`. Empty lists name none.
 -- EndsOnce arcs: no two arcs, at different places, end at one pin. So no two arcs join the same two pins.
 -- Rises arcs ranks: each arc runs from a pin of lower rank to one of higher rank. A pin past the ranks has rank 0.

@@ -1,9 +1,13 @@
+-- time_limit: the greatest magnitude of a time, 10 us in fs. launch_limit: the same of a launch, which is a clock
+--   arrival and a delay, 20 us.
 -- IsWithin limit time: the time is at most the limit in magnitude; it may be below 0.
 -- IsSpan limit span: the ends of the span stand in order, and both are within the limit.
 -- IsValidCorner problem spans: the spans of a corner have one entry for each arc, launch, capture and kind, all in
 --   order and within the limits; a kind's least is at least 0.
--- IsValid problem: the problem is within the limits and each of its corners is valid. It has at least one corner; it may
---   have no pin, no kind, no arc, launch or capture. Its graph may list a pin more than once.
+-- IsValid problem: the problem is within the limits and each of its corners is valid. It has 1 to 8 corners, at most
+--   2^20 pins, 2^22 arcs and 8 kinds, each kind's cost is from 1 to 10^6, the chain limit is at most 16, and the
+--   period is from 1 fs to 10 us. It may have no pin, no kind, no arc, launch or capture. Its graph may list a pin
+--   more than once.
 use Rattle.std.specs.Prelude.{◌≡◌, ℕ, ◌^◌, ◌≤◌, length, All, ℤ, pos, neg_ℤ, ◌≤ℤ◌}
 use Rattle.hold_base.specs.Interval.{IsOrdered}
 use Rattle.hold_base.specs.declared.time.Interval.{Interval}

@@ -3,10 +3,12 @@
 --   to a clock pin. So a clock pin is none, and a launch that no wire arc ends at is none.
 -- AreSites parts sites: the sites in pin order, each once. Empty where no path is checked.
 -- Counts go by variable, `site * kinds + kind`, where a site is told by its place among the sites and a kind by its own.
+-- count_at kinds counts site kind: the count of that kind at the site of that place; 0 where there is no site.
 -- buffers_of kinds sites counts: these counts as buffers in front of pins, of kinds below `kinds`. None stands in front of a pin
 --   that is no site, and a variable past the counts has 0.
 -- chain_sum kinds counts site: how many buffers stand at the site.
 -- IsBuffering problem sites counts: each variable has a count from 0 to 16, and no site has more than `max_chain`.
+-- cost_from costs var counts: the cost of these counts, where the first is that of the variable `var`.
 -- cost_of costs counts: each count times its kind's cost, summed. Where there is no kind there is no variable and no cost.
 -- Meets problem sites counts: the counts are a buffering over these pins, and with it the problem is met. It means something
 --   of the graph's sites alone (`AreSites`).

@@ -1,10 +1,16 @@
 -- end_of side span: the end that the side looks at, the least of an early span and the greatest of a late one.
+-- hull a b: the least interval that has both of these.
 -- hull_of spans: the least interval that has all of these. The hull of none is 0 to 0.
 -- greatest_of times: the greatest of these times, and 0 where there is none.
 -- items_at pins items pin: the items that stand at those places where `pins` names the pin. An item without a pin,
 --   or a pin without an item, counts for nothing.
--- spans_between arcs spans a b: the spans of the arcs from a to b, none where no arc leads there.
+-- spans_between arcs spans a b: the spans of the arcs from a to b, none where no arc leads there. An arc without a
+--   span, or a span without an arc, counts for nothing.
 -- Buffers: how many buffers of a kind, told by its place, stand in front of a pin. `no_buffers` has none anywhere.
+-- added_from side place kinds counts: what the buffers of these kinds add, of which the first has that place: of each
+--   kind its count times the end of its span that the side looks at. 0 where there is no kind.
+-- steps_sum side arcs spans buffers a pins: what the steps from a to these pins, one after another, sum up to: of each
+--   step its span, and what the buffers in front of the pin that it comes to add. 0 where there is no step.
 -- path_sum side parts spans buffers path: what the first pin's launch has, plus the span of each step, plus what the
 --   buffers in front of each pin after the first add; of each the end that the side looks at. Two pins that several
 --   arcs join, and a launch that is listed more than once, count with the hull of their spans. A pin that is no

@@ -1,5 +1,7 @@
--- AreSized line tables: there is a number, or none, for each pin and each arc, and the numbers are in their limits.
--- AreTablesOf side parts spans line tables: what the tables of one side of a corner hold.
+-- AreSized line tables: there is a number for each arc, and one or none for each pin, and all but the starts are in
+--   their limits.
+-- AreTablesOf side parts spans line tables: what the tables of one side of a corner hold: the weight of each arc, and
+--   what `AreTables` says of the rest.
 use Rattle.std.specs.Prelude.{◌≡◌, length, map, All}
 use Rattle.hold_base.specs.declared.time.Side.{Side}
 use Rattle.hold_graph.specs.declared.graph.Parts.{Parts}

@@ -1,17 +1,21 @@
--- The canonical Verilog text of a design: one text a netlist, this project's own layout of what
--- IEEE 1364-2005 allows. A line ends with a newline.
+-- The canonical Verilog text of a design: one text a netlist, in a layout of this project's own. A line ends with
+-- a newline.
 --
--- spelled name: a name as it is written: plain where it is a simple identifier, else a backslash, the
--- name and one space.
+-- spelled name: a name as it is written: plain where it is a simple identifier, else a backslash, the name and
+--   one space.
 -- joined texts: the texts with a comma and a space between each and the next.
 -- range_text r: the range of a declaration and a space; nothing for a scalar.
 -- direction_text d: the word of a direction, and a space.
+-- index_text r n: the index of bit n, counted from the left bound of the range, in brackets; nothing for a scalar.
 -- bit_of_wire w n: bit n of a wire, counted from its left bound: the name, and for a vector, also one of a
--- single bit, its index in brackets.
+--   single bit, its index in brackets.
 -- bit_text wires n: net bit n, found going down the wires; nothing past the last.
 -- source_text wires s: a net bit or a constant; nothing for an empty connection.
--- port_lines ports wires: a line for each port, with the range of its wire, the one at its place.
+-- port_line p w: the line of a port, with the range of that wire.
+-- port_lines ports wires: a line for each port, with the range of its wire, the one at its place. A port without
+--   a wire has no line.
 -- wire_line, assign_line, connection_text, inst_line: one wire, assigned bit, connection, instance.
+-- module_line name ports: the line that opens the module, with its name and those of the ports.
 -- canonical_text d: the text: module and port names, ports, other wires, assigned bits, instances, end.
 use Rattle.std.specs.Prelude.{ℕ, ◌+◌, ◌-◌, List, [], ◌∷◌, ◌++◌, length, drop, flat_map, map, Option, Some, None, nat_lt, if◌then◌else◌, decimal, codes}
 use Rattle.hold_netlist.specs.declared.wire.Direction.{Direction}

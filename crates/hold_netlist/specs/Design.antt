@@ -1,5 +1,5 @@
--- Design: what a netlist is made of: the module's name, and its ports, wires, instances and assignments
--- of single bits, each in order. The ports are the first wires.
+-- Design: what a netlist is made of: the module's name, and its ports, wires, instances and assignments of
+--   single bits, each in order. In a well-formed one the ports are the first wires.
 -- design: the design of these parts.
 use Rattle.std.specs.Prelude.{ℕ, List}
 use Rattle.hold_netlist.specs.declared.wire.Port.{Port}

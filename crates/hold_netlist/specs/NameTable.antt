@@ -1,6 +1,8 @@
 -- A table from names to numbers is seen as its pairs, in the order in which they were added.
+--
 -- names_of pairs: their names.
 -- number_of name pairs: the number of the first pair of that name; None where there is none.
+-- pairs_of entries: the pairs of entries whose keys are vectors of bytes.
 use Rattle.std.specs.Prelude.{ℕ, List, [], ◌∷◌, map, Option, Some, None, Vec, bytes_eq, if◌then◌else◌}
 use Rattle.std.specs.declared.alloc.Global.{Global}
 

@@ -1,10 +1,13 @@
 -- IsSource bits s: a source that names a net bit names one of the `bits` that there are.
--- IsWrittenWire w: the name is a name, and bounds are at most 2^20 - 1.
+-- HasBoundsInLimit r: both bounds of a range are at most 2^20 - 1; so too without a range.
+-- IsWrittenWire w: the name is a name, and the bounds are in the limit.
 -- IsWrittenPin bits p: the name is a name, and the source is one.
 -- IsWrittenInst bits i: its name and its type's are names, and its connections are written well.
 -- IsWrittenAssign bits a: the left side is a net bit; the right side is a source and not Empty.
--- IsWellFormed d: the parts fit together. The first wires have the ports' names in order, so there are at
--- least as many wires as ports. Nothing is said of names that stand twice, nor of how many parts there are.
+-- IsWellFormed d: the parts fit together: the module's name is a name, and each wire, instance and assignment is
+--   written well, where there are as many net bits as the wires have. The first wires have the ports' names in
+--   order, so there are at least as many wires as ports. Nothing is said of names that stand twice, nor of how
+--   many parts there are.
 use Rattle.std.specs.Prelude.{◌≡◌, ◌≢◌, ℕ, ◌<◌, ◌≤◌, length, take, Option, Some, None}
 use Rattle.std.specs.List.{AllByRecursion}
 use Rattle.hold_netlist.specs.declared.wire.Wire.{Wire}

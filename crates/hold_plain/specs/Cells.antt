@@ -2,9 +2,13 @@
 -- arc_span from to arcs: the span of the first arc from the one pin to the other, none where there is no such arc.
 -- check_of pin checks: the first check of that pin, none where it has none.
 -- arrival_in inst clocks: the arrival of the first entry of that instance, none where it has no entry.
+-- or_else a other: what a holds, else what the other holds.
 -- clock_arrival timing inst: when the clock arrives at an instance of that name: its own entry, else the common arrival; none
 --   where there is neither.
--- role_in cell name: what a connection of that name is at an instance of the cell. Stray where the cell has no such pin.
+-- is_clock clock name: whether the name is that of the clock pin; never so where there is none.
+-- role_in cell name: what a connection of that name is at an instance of the cell. Stray where the cell has no such pin. A pin that
+--   stands in two lists of the cell has the first of clock, input or data, output.
+-- role_as role cell name: the same, where the cell has that role.
 use Rattle.std.specs.Prelude.{ℕ, List, [], ◌∷◌, Option, Some, None, Bool, false, ◌&&◌, if◌then◌else◌, bytes_eq}
 use Rattle.hold_base.specs.declared.time.Interval.{Interval}
 use Rattle.hold_netlist.specs.Names.{is_among}

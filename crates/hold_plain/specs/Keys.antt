@@ -1,11 +1,15 @@
+-- net_of source: the net that a source names; none of a constant, and of nothing.
 -- driven u: the net that the pin drives: outputs of instances and input ports drive the net that they are tied to. Other pins, and
---   outputs that are tied to nothing, drive none.
+--   outputs that are tied to nothing or to a constant, drive none. driven_as role source: the same of a pin of that role.
 -- fed u: the number of the combinational instance that the pin, a connected input of it, leads into. Other pins lead into none.
+--   fed_as role source inst: the same of a pin of that role.
 -- OneEach keys: no key stands at two places.
--- place_of key keys: the first place at which the key stands, none where it stands nowhere.
+-- is_key key k: whether the key stands there.
+-- place_of key keys: the first place at which the key stands, none where it stands nowhere. place_from place key keys: the same
+--   where the first of the keys has that place.
 -- HoldsPlaces bound keys table: each key is below the bound, and the table has, by key, the first place at which it stands.
--- ArePlaces uses drivers feeders: by net the place of the pin that drives it, and by instance that of the connected input that leads
---   into it.
+-- ArePlaces nets insts uses drivers feeders: by net the place of the pin that drives it, and by instance that of the connected input
+--   that leads into it. Nets and instances are below these numbers.
 use Rattle.std.specs.Prelude.{◌≡◌, ℕ, ◌+◌, ◌==◌, List, [], ◌∷◌, map, Option, Some, None, slice_get, slice_index_or, length, ◌<◌, Bool, false, if◌then◌else◌}
 use Rattle.hold_netlist.specs.declared.inst.Source.{Source}
 use Rattle.hold_netlist.specs.declared.inst.Source.TheVariants.{Net, Zero, One, Empty}

@@ -1,4 +1,7 @@
+-- IfKnown P a: what a holds, if anything, has the property.
+-- IsCheckInLimit check: setup and hold are within the limit of 10 us.
 -- IsTimed u: the delay, the check and the arrival of a pin, where it has them, are within the limit of 10 us, and spans have their ends in order.
+-- KeepsCellLimits cell: the same of each arc and each check of a cell.
 -- KeepsLimits timing: the same of all that is known of time; the period is from 1 fs to 10 us.
 use Rattle.std.specs.Prelude.{All, Option, Some, None, pos, ◌≤ℤ◌}
 use Rattle.hold_graph.specs.Problem.{IsSpan, IsWithin, time_limit}

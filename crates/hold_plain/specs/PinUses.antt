@@ -1,12 +1,17 @@
 -- is_tied source: whether the source is a net or a constant.
+-- is_input role: whether the role is that of an input of a combinational instance.
 -- is_fed cell pin: whether the connection is an input of a combinational instance that is tied to a net or to a constant.
 -- fed_name cell pins: the name of the first such connection, none where there is none.
+-- arc_from from cell name: the delay of the cell from that pin to the one of that name; none where no first pin is given, or the
+--   cell has no such arc.
 -- delay_to cell fed name role: at an output of a combinational instance the delay from its first connected input, at an output of
 --   a register the delay from its clock; none where no input is connected, where the cell has no such arc, and at every other pin.
 -- check_at cell name role: the check of a data pin; none where the cell has none for it, and at every other pin.
 -- use_of cell arrival inst fed pin: what a connection of the instance of that number is. stray_use: the same, where no cell is known.
+-- cell_uses cell arrival inst pins: what these connections are, in order, where the cell may be known.
 -- inst_uses timing inst i: what the connections of an instance are, in order. insts_uses: those of the instances, of which the first
 --   has that number.
+-- port_role direction: what a port of that direction is.
 -- port_use net port: what the bit of a scalar port is. ports_uses: those of the ports, of which the first has that number.
 -- uses_of timing d: what each pin of the netlist is: the connections in the order of instances, then the ports. The wires are scalar,
 --   so a port is its one bit, and its net has the port's number.

@@ -1,15 +1,24 @@
+-- zero_span: the span from 0 to 0. known_or other a: what a holds, else the other.
+-- arc_if wire from to: the arc between the pins of these places, as a list; none where the first isn't known.
+-- driver_of drives net: the place of the pin that drives the net; none where no net is given, or it has no driver.
 -- arcs_into drives feeds place u: the arc that ends at the pin of that place: a wire arc from the driver of the net that the pin reads, at an
 --   output of a combinational instance the cell arc from the connected input that leads into the instance. None at an output of a
---   combinational instance without such an input, at an output of a register and at an input port, and at a pin that reads a
---   constant, nothing, or a net without a driver.
+--   combinational instance without such an input, at an output of a register and at an input port, at a pin that is unknown, and at a
+--   pin that reads a constant, nothing, or a net without a driver. arcs_as role drives feeds place u: the same of a pin of that role.
 -- arcs_from: these arcs of the pins from one place on, in order. step_span u: what the arc into the pin adds: a cell arc its delay, a wire nothing.
+--   step_as role u: the same of a pin of that role.
 -- steps_from: what these arcs add, in the same order.
--- pins_with is uses: the pins whose role passes the test, in order. uses_with is f uses: what f makes of each of them.
+-- is_clock_pin, is_data, is_launch: whether a role is that of a register's clock pin, data pin or output.
+-- pins_with is uses: the pins whose role passes the test, in order. pins_from is place uses: the same where the first has that place.
+--   uses_with is f uses: what f makes of each of them.
+-- sum_of a b: two spans added end by end.
 -- clock_span u: when the clock arrives at the pin's register. launch_span u: when an output of a register changes: that arrival and
---   the delay from the clock, end by end. setup_of u, hold_of u: the check of a data pin. Of what isn't known each is 0.
+--   the delay from the clock, end by end. setup_of u, hold_of u: the check of a data pin. Of what isn't known each is 0; so
+--   `no_check` has both 0.
 -- parts_of uses, spans_of uses: the graph of the pins, and its times in the one corner. problem_of timing d: the timing problem of a
---   netlist. It has no kind of buffer, and no buffer may be put. These mean something of a netlist that is served.
--- rank_of u: a number by which each arc of a served netlist runs upwards.
+--   netlist; problem_with period uses: the same by its pins. It has no kind of buffer, and no buffer may be put. These mean something
+--   of a netlist that is served.
+-- rank_of u: a number by which each arc of a served netlist runs upwards. rank_as role inst: the same of a pin of that role.
 use Rattle.std.specs.Prelude.{ℕ, ◌+◌, ◌*◌, ◌^◌, List, [], ◌∷◌, ◌++◌, map, length, Option, Some, None, Bool, true, false, if◌then◌else◌, ℤ, pos, ◌+ℤ◌}
 use Rattle.hold_base.specs.declared.number.PinNo.{PinNo}
 use Rattle.hold_base.specs.declared.time.Interval.{Interval}

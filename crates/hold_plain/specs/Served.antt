@@ -1,7 +1,11 @@
+-- IsNoConstant source: the source is a net, or nothing.
 -- HasNoConstant u: an output pin of an instance isn't tied to a constant. Asks nothing of other pins.
 -- HasDelay feeds u: an output of a register has its delay, and so has an output of a combinational instance into which a connected
 --   input leads. HasCheck u: a data pin has its check. Both ask nothing of other pins.
+-- HasNoConstantAs, HasDelayAs, HasCheckAs: the same of a pin of a given role.
 -- IsForward uses: where a combinational instance drives the input of one, it stands before that one in the netlist.
+-- HasArrivalAs role timing i: the clock arrives at the instance where the role is that of a register.
+-- IsInstOf cell timing i: the cell is known, and the clock arrives at the instance where the cell is a register.
 -- IsServedInst timing i: the instance's cell is known, and the clock arrives at it where it is a register.
 -- IsRegister timing insts name: some register instance has that name.
 -- IsScalar d: each wire is scalar, and nothing is assigned. So the netlist has as many net bits as wires.
@@ -10,7 +14,7 @@
 -- IsServedUses uses: pins of a netlist that has a timing problem of the plain form: there are at most 2^20, each is known, no output
 --   is tied to a constant, no net has two drivers, at most one connected input leads into each combinational instance, where one
 --   drives another it stands before it, and each delay and check that a pin asks for is known, whether or not a path uses it.
--- IsServed timing d: the netlist is served: its pins are such, there are at most 2^21 net bits and 2^18 instances, each instance's
+-- IsServed timing d: the netlist is served: its pins are such, there are at most 2^21 wires and 2^18 instances, each instance's
 --   cell is known and each register's arrival, and each clock entry names a register.
 use Rattle.std.specs.Prelude.{◌≡◌, ◌≢◌, ℕ, ◌<◌, ◌≤◌, ◌^◌, List, [], map, length, Option, Some, None, IsSome, slice_get, Contains, All}
 use Rattle.hold_netlist.specs.declared.inst.Source.{Source}

@@ -1,10 +1,12 @@
 -- A table from names to numbers is seen as its pairs.
+--
 -- first_at place name names: the place of the first of these names that is the name, where the first of all stands at `place`. None
 --   where none is.
 -- TellsPlaces names table: the table gives each name the place at which it stands first, counted from 0.
 -- cell_names, clock_names: the names of cells, and of the registers that have a clock entry, in order.
--- AreTables timing cells clocks: the two tables tell the places of cells and of clock entries.
--- is_register timing i: whether the instance's cell is known and is a register.
+-- AreTables timing cell_places clock_places: the two tables tell the places of cells and of clock entries.
+-- is_register timing i: whether the instance's cell is known and is a register. is_register_cell cell, is_register_role role: the
+--   same by a cell, which may be unknown, and by a role.
 -- TellsRegisters timing insts table: the table has exactly the names of register instances.
 use Rattle.std.specs.Prelude.{◌≡◌, ◌↔◌, ℕ, ◌+◌, List, [], ◌∷◌, map, Option, Some, None, IsSome, Bool, true, false, bytes_eq, if◌then◌else◌}
 use Rattle.hold_netlist.specs.declared.inst.Inst.{Inst}

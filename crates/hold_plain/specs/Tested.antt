@@ -2,10 +2,12 @@
 --
 -- IsSoundList uses: what `IsServedUses` asks of a list beside its keys: of its length, and of each pin by itself.
 -- input_net u: the net that an input of a combinational instance is tied to; none where it is tied to no net, and at every other pin.
+--   input_net_as role source: the same of a pin of that role.
 -- IsBefore from to: where the first pin is an output of a combinational instance, that stands before the instance of the other.
 -- IsAfterDriver uses drivers u: where the table has a pin for the net of the input u, that pin is before u. Asks nothing of other pins.
--- HasDelayIn feeders u: what `HasDelay` says, by the table of the connected inputs.
--- IsInOrder uses drivers feeders: both hold of each pin.
+-- HasDelayIn feeders u: what `HasDelay` says, by the table of the connected inputs. HasDelayInAs role feeders u: the same of a pin of
+--   that role.
+-- IsInOrder uses drivers feeders: `IsAfterDriver` and `HasDelayIn` hold of each pin.
 use Rattle.std.specs.Prelude.{◌≡◌, ◌≢◌, ℕ, ◌<◌, ◌≤◌, ◌^◌, List, length, Option, Some, None, IsSome, All, slice_get, slice_index_or}
 use Rattle.hold_netlist.specs.declared.inst.Source.{Source}
 use Rattle.hold_plain.specs.declared.pin_use.PinUse.{PinUse}

@@ -1,17 +1,26 @@
 -- What stands at the front of a text, by cases on its first bytes.
 --
--- mark: what a piece is by its first byte: an opening or a closing parenthesis, a colon, a string, which a
---     quote begins, or else an atom.
--- white space: a space, a tab, a newline, a carriage return or a form feed.
--- end of an atom: white space, a parenthesis, a colon or a quote, where no backslash takes it. A comment's
---     sign ends no atom, so `a//b` is one, and a comment opens only where a piece could begin.
--- length of the rest of a line: the bytes before the next newline; all of them where there is no newline.
--- length of the rest of a block comment: the bytes up to and with the first `*/`; none where there is no `*/`.
--- length of an atom: the bytes before its end, where a backslash takes the byte after it, whatever that is;
---     none where a backslash is the last byte of the text.
--- front: the mark of the first piece and its length in bytes; no mark where white space or a comment stands
---     there instead. White space counts byte by byte, a line comment up to its newline. None where a string,
---     a block comment or a backslash that stands there has no end.
+-- newline, quote, star, slash, colon_sign, backslash: these bytes. opening, closing: those of the parentheses.
+-- is_white b: white space: a space, a tab, a newline, a carriage return or a form feed.
+-- ends_atom b: whether the byte ends an atom, where no backslash takes it: white space, a parenthesis, a colon or a
+--     quote. A comment's sign ends no atom, so `a//b` is one, and a comment opens only where a piece could begin.
+-- Mark: what a piece is by its first byte: an opening or a closing parenthesis (opens, closes), a colon (colon), a
+--     string, which a quote begins (string), or else an atom (atom). mark_of b: the mark of a piece that begins with
+--     this byte.
+-- line_rest bytes: how long the rest of a line is: the bytes before the next newline; all of them where there is no
+--     newline.
+-- block_rest bytes: how long the rest of a block comment is: the bytes up to and with the first `*/`; None where there
+--     is no `*/`.
+-- atom_length bytes: how long an atom is: the bytes before its end, where a backslash takes the byte after it, whatever
+--     that is; None where a backslash that isn't taken itself is the last byte of the text.
+-- piece_length mark bytes: how long the piece of this mark is that stands first: one byte for a parenthesis or a colon,
+--     up to and with the next quote for a string; None where a string or an atom has no end.
+-- begins_with b bytes: whether the bytes begin with this one; never so where there is none.
+-- Front: what stands at the front of a text: the mark of a piece and its length in bytes; no mark where white space or
+--     a comment stands there instead.
+-- front_of b rest: the front of the text that begins with this byte and goes on with the rest. White space counts byte
+--     by byte, a line comment up to its newline. None where a string, a block comment or a backslash that stands there
+--     has no end.
 use Rattle.std.specs.Prelude.{ℕ, suc, ◌+◌, Bool, false, ◌==◌, ◌||◌, ◌&&◌, List, [], ◌∷◌, length, drop, Option, None, Some, option_map, unwrap_or, position, if◌then◌else◌}
 
 pub data Mark : Type 0 where

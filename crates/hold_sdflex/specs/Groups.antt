@@ -1,15 +1,22 @@
 -- What a text is that has to be one whole group, and how such a group's pieces stand.
 --
--- stray piece: the first piece that stands beside the first group: the first of all where it is no opening
---     parenthesis, else the first after that group's end; none where the group is all there is.
--- group of a text: its paired pieces, where they are one group and nothing else. Otherwise the place of the
---     fault in bytes: the text's length where a string, a block comment, a backslash or a group has no
---     end or the text has no piece, else the place of the stray piece.
--- one group: a list of pieces that begins with an opening parenthesis, which the last piece closes. What
---     stands between any opening parenthesis and its closing one is balanced, and a group that begins
---     within another one ends within it.
--- in order: each piece has a byte and ends within the text, and a later piece begins where an earlier one
---     ends, or after that.
+-- paired_pieces text: the pieces of the text, paired; None where they can't be read or an opening parenthesis has no
+--     closing one.
+-- after_group form: the place in the list right behind the group that begins the list, where the first piece has this
+--     form; 0 where that opens no group.
+-- stray ps: where in the text the first piece begins that stands beside the first group: the first of all where it is
+--     no opening parenthesis, else the first after that group's end; None where the group is all there is, or nothing is.
+-- group_or_fault end paired: the group that these paired pieces of a text of that length are, or the place of the fault.
+-- group_of text: the text's paired pieces, where they are one group and nothing else. Otherwise the place of the fault
+--     in bytes: the text's length where a string, a block comment, a backslash or a group has no end or the text has no
+--     piece, else the place of the stray piece.
+-- form_at ps place: the form of the piece at this place in the list; None past the end.
+-- IsGroup ps open_at close_at: a closing parenthesis stands at the second place, which is later than the first, and what
+--     stands between the two is balanced.
+-- AreOneGroup ps: the pieces begin with an opening parenthesis, which the last piece closes. What stands between any
+--     opening parenthesis and its closing one is balanced, and a group that begins within another one ends within it.
+-- AreInOrder ps end: in a text of that length each piece has a byte and ends within the text, and a later piece begins
+--     where an earlier one ends, or after that.
 use Rattle.std.specs.Prelude.{◌≡◌, ℕ, ◌+◌, ◌-◌, ◌<◌, ◌≤◌, List, [], ◌∷◌, length, Option, None, Some, option_map, option_and_then, Result, Ok, Err, slice_get, slice_range}
 use Rattle.std.specs.Option.{option_map_or}
 use Rattle.hold_sdflex.specs.declared.piece.Form.{Form}

@@ -1,12 +1,19 @@
 -- How the pieces of a text nest.
 --
--- depth after a mark: one more after an opening parenthesis, one less after a closing one, else the same;
---     none where a closing one stands at depth 0, since it closes what was opened before.
--- marks inside a group: those after its opening parenthesis up to the closing one that stands where no
---     group within is open; none where the list ends before.
--- paired: each piece has its form, and each opening parenthesis the place of its closing one in the list; none
---     where one has none. A closing parenthesis that closes nothing stays as it is.
--- balanced: each parenthesis in the list has its partner in the list. The empty list is balanced.
+-- depth_after mark depth: the depth after a mark: one more after an opening parenthesis, one less after a closing one,
+--     else the same; None where a closing one stands at depth 0, since it closes what was opened before.
+-- inside marks depth: how many of the marks stand in a group of which so much is read that `depth` groups within it are
+--     open: those before the closing parenthesis that stands where no group within is open. None where the list ends
+--     before.
+-- form_of mark place after: the form of the piece at this place in the list, where these marks follow it: of an opening
+--     parenthesis with the place of its closing one, None where it has none.
+-- marks ps: the marks of the pieces, in order.
+-- paired ps place: the pieces, of which the first has this place in the list: each has its form, and each opening
+--     parenthesis the place of its closing one in the list; None where one has none. A closing parenthesis that closes
+--     nothing stays as it is.
+-- mark_in form: the mark of a form.
+-- depth_over marks depth: the depth after all of the marks; None where a closing parenthesis stands at depth 0.
+-- IsBalanced ps: each parenthesis in the list has its partner in the list. The empty list is balanced.
 use Rattle.std.specs.Prelude.{◌≡◌, ℕ, zero, suc, ◌+◌, List, [], ◌∷◌, map, Option, None, Some, option_map, option_and_then}
 use Rattle.std.specs.Option.{option_map_or}
 use Rattle.hold_sdflex.specs.declared.piece.Form.{Form}

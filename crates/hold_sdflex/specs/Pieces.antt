@@ -1,9 +1,12 @@
 -- The pieces of a whole text, before groups are paired.
 --
--- marked piece: the mark of a piece and the place of its bytes in the text.
--- pieces of a text: what stands at its front, then what stands at the front of the rest, and so on to the
---     end; white space and comments are left out. A text without any has the empty list. None where one of
---     the fronts is none.
+-- Marked: a piece by its mark and the place of its bytes in the text.
+-- pieces_of mark from to: the piece of a front at this place, as a list; none where the front has no mark.
+-- pieces_from text skip at: the pieces of a text whose first byte has the place `at`, and whose first `skip` bytes
+--     belong to the front that was read last. None where one of the fronts is None.
+-- pieces_of_text text: the pieces of the text: what stands at its front, then what stands at the front of the rest, and
+--     so on to the end; white space and comments are left out. A text without any has the empty list. None where one of
+--     the fronts is None.
 use Rattle.std.specs.Prelude.{ℕ, zero, suc, ◌+◌, ◌-◌, List, [], ◌∷◌, ◌++◌, Option, None, Some, option_map, option_and_then}
 use Rattle.hold_sdflex.specs.Front.{Mark, front_of}
 

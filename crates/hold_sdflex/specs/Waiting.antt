@@ -1,11 +1,13 @@
 -- What the walks over a text and over its pieces keep, and what the program's own records show.
 --
--- shown: the front or the marked piece that a record of the program stands for. A front's form has the mark
---     that it begins with, and a place that an opening parenthesis has before groups are paired counts for
---     nothing.
--- length left of an atom: that of the bytes after a first one, where a backslash took the next byte or not.
--- waiting closings: the places of the closing parentheses whose opening ones stand before these pieces; the
---     one that the next opening parenthesis takes is the last.
+-- shown_front, shown_piece: the front, or the marked piece, that a record of the program stands for. A front's form has
+--     the mark that it begins with, and a place that an opening parenthesis has before groups are paired counts for
+--     nothing. shown ps: the marked pieces of a list.
+-- atom_left taken bytes: how long an atom goes on behind a first byte: where a backslash took the next byte, that one
+--     and then as atom_length says, None where there is no byte to take; else as atom_length says.
+-- AreWaiting closings after place: the closings are the places in the list of the closing parentheses whose opening
+--     ones stand before this place, from which on the pieces have these marks; the one that the next opening
+--     parenthesis before it takes is the last.
 use Rattle.std.specs.Prelude.{◌≡◌, ℕ, suc, ◌+◌, Bool, true, false, List, [], ◌∷◌, map, Option, None, option_map, reverse, slice_get}
 use Rattle.hold_sdflex.specs.declared.front.Front.{Front as FrontRead}
 use Rattle.hold_sdflex.specs.declared.piece.Piece.{Piece}

@@ -1,4 +1,4 @@
-//! The nested groups of a text of the Standard Delay Format (IEEE 1497-2001), as one flat list of pieces
+//! The nested groups of a text of the Standard Delay Format (a profile of IEEE 1497-2001), as one flat list of pieces
 //! in which each opening parenthesis knows the place of its closing one.
 #![tactic(auto)]
 

@@ -1,5 +1,8 @@
--- The bytes of Verilog's tokens. is_blank b: white space, which is space, tab, newline, carriage return and
---   form feed.
+-- The bytes of Verilog's tokens.
+--
+-- newline, quote, dollar, apostrophe, left_parenthesis, right_parenthesis, star, slash, backslash, underscore, backquote:
+--   these bytes.
+-- is_blank b: white space, which is space, tab, newline, carriage return and form feed.
 -- is_printed b: from 33 to 126. A blank is not printed.
 -- is_in_line b: any byte but the newline, at which a line ends.
 -- begins_word b: a letter or `_`. continues_word b: a letter, a digit, `_` or `$`.

@@ -19,6 +19,7 @@
 --   byte after that. A byte that is no blank is bad, also after an empty name.
 -- number_sort run: the sort of a run that begins with a digit or an apostrophe: Number where all are digits,
 --   Constant where it is `1'`, a base and `0` or `1`, and nothing more; else Other.
+-- constant_sort run: the same where not all are digits.
 -- whole sort text: a token whose text is all that it takes.
 -- front text: what stands at the front of the text.
 use Rattle.std.specs.Prelude.{ℕ, ◌+◌, ◌<◌, ◌≤◌, true, false, ◌&&◌, ◌==◌, if◌then◌else◌, List, [], ◌∷◌, length, drop, slice_get, Option, Some, None, is_some, codes}

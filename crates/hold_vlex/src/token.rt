@@ -1,4 +1,4 @@
-/// What a token is (IEEE 1364-2005, section 3, in this project's profile).
+/// What a token is (a profile of IEEE 1364-2005).
 #[derive(Clone, Copy, Debug, PartialEq, Eq)]
 pub enum Sort {
     /// A simple identifier or a keyword.

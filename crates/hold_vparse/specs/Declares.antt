@@ -6,8 +6,8 @@
 -- part_bits wires p: the net bits that a part selects, from its left end.
 -- net_number n, net_bit n: the net bit of that number, and as a source. constant value: a constant as a source.
 -- sources wires r: what the bits of a right side are, from its left end.
--- tied_bits lefts rights: one assignment for each pair of bits, from the left end. Both sides are equally wide
---   wherever no fault is found, so the same bits are paired from the right end.
+-- tied_bits lefts rights: one assignment for each pair of bits, from the left end; a bit without a partner has none.
+--   Both sides are equally wide wherever no fault is found, so the same bits are paired from the right end.
 -- assigned wires a: the assignments of single bits that one assignment makes.
 -- source wires t: what a pin is tied to. pin, inst, port: a connection, an instance with the name of its type, and a
 --   port, as the netlist has them.

@@ -6,8 +6,10 @@
 --   module's name, types and pins. mentions_of_instance, mentions_of_item: those in one part of it. mention role name:
 --   one mention.
 -- clash listed net earlier later: whether two mentions of one name, in these roles, declare it twice, where
---   `listed` says whether the name stands in a plain list of ports, and `net` whether it is declared as a net. A
---   name that isn't is declared by its first use.
+--   `listed` says whether the name stands in a plain list of ports, and `net` whether it is declared as a net. Not so
+--   of a listed port and its direction or a wire, of a port that the header declares and a wire, of a direction and a
+--   wire, in either order, where the name is listed, of two uses, and of a use and anything else where the name is
+--   declared as a net. So of all others. A name that isn't declared as a net is declared by its first use.
 -- declares_again m later earlier: whether two mentions have one name and clash.
 -- doubles m seen later: of the later mentions, those that clash with a seen one or an earlier one of them; so each use
 --   of an implicit net behind an instance of its name is one.

@@ -1,13 +1,13 @@
--- How each part of a syntax tree is written in symbols. A text is in the grammar where its pieces are those of a
--- tree (IEEE 1364-2005, annex A, in this project's profile).
+-- How each part of a syntax tree is written in symbols. A text is in the grammar of this project's profile where its
+-- pieces are those of a tree.
 --
 -- separated write xs: the xs, each after a comma. several write s: one or more with commas between them.
 -- listed write xs: the same, and nothing where there are none.
 -- name_symbols i: an identifier. bounds_symbols r: two bounds with their brackets. direction_mark d: the word of a direction.
 -- wire_symbols written: the word `wire` where it is written.
 -- range_symbols r: the range; nothing for a scalar.
--- port_symbols p: a port that is declared in the header. next_port_symbols p: a later one.
--- header_symbols h: the ports in the header, with the parentheses.
+-- port_symbols p: a port that is declared in the header. next_port_symbols p: a later one, which may have its name alone.
+-- header_symbols h: the ports in the header, with the parentheses; nothing where it has neither.
 -- selected_symbols s: what is written after the name of a net.
 -- part_symbols, right_symbols, assignment_symbols, tied_symbols, connection_symbols, instance_symbols: one of each.
 -- header_piece m: the piece that opens the module.

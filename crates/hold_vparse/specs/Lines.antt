@@ -8,9 +8,9 @@
 --   header_line p, next_lines d r ps: the lines of one port, and of those behind one of this direction and range.
 -- body_lines items: the names to which the body gives a direction, in order, also those that are no port. wire_lines
 --   items: the wires that it declares by the word `wire` at the head of a statement.
--- assignments items, instances items: all of them, in order; an instance with the name of its type. A word that ends in
---   `_of_item` has those of one statement.
--- line_of name lines: the first of the lines that declares this name.
+-- assignments items, instances items: all of them, in order; an instance with the name of its type.
+-- lines_of_item, wires_of_item, assignments_of_item, instances_of_item: those of one statement.
+-- line_of name lines: the first of the lines that declares this name; None where none does.
 -- as_declared i line: the port i as that line declares it. ports_in h lines: the ports of a header, those of a plain
 --   list as these lines declare them.
 -- ports_of m: the ports in header order, each with its direction and range. A port of a plain list to which no

@@ -7,7 +7,8 @@
 --   used_in_tied, used_in_instance, used_in_item: those in one part of it.
 -- first_uses seen is: those whose name is neither among the seen nor an earlier one's.
 -- wire name range: a wire of that name and range.
--- port_wires m: the wires of the ports, in header order. other_wires m: the other declared ones, in order.
+-- port_wires m: the wires of the ports, in header order. other_wires m: those that `wire` declares and that are no
+--   port, in order.
 -- implicit_wires m: a scalar for each name that is used and that no header, direction or `wire` declares, in the order of
 --   first uses. That an instance has the name makes no difference.
 -- nets m: all wires: ports, other declared ones, implicit ones.

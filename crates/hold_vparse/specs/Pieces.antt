@@ -1,7 +1,7 @@
 -- ends_piece s: whether the symbol ends the piece that it stands in: a semicolon.
 -- is_piece s: whether the symbol, where a piece would begin with it, is that whole piece: the semicolon, or the
 --   word `endmodule`.
--- onto t ps: the token t put in front of the first of the pieces.
+-- onto t ps: the token t put in front of the first of the pieces; a piece of its own where there is none.
 -- pieces ts: the tokens cut into pieces. Each runs up to and with the next semicolon, but a piece that would
 --   begin with the word `endmodule` is that one token. The last may be unfinished. No piece is empty.
 -- pieces_within ts: the same where the tokens follow on what a piece has already, so that the first of the

@@ -1,14 +1,38 @@
 -- What the parts of the reader give: each reads one part of the tree from the front of the symbols, and answers it
 -- with the symbols behind it, or nothing where the symbols don't begin so. A longer part goes before a shorter one.
+-- A word that ends in `_at` reads its part from the front. One in `_in` takes the first symbol and those behind it, one
+-- in `_by` also what was found in front, a direction or a constant, and one in `_after` comes behind the first word or
+-- sign of its part.
 --
 -- is_mark m s: whether the symbol is that mark.
 -- begins m ss: whether the symbols begin with that mark. behind m ss: the symbols without the mark, where they
 --   begin with it. after m ss: the same, and nothing where they begin otherwise.
--- more_of read ss: as many as there are, each after a comma. n bounds their number in more_up_to.
+-- Reads X: what reads an X from the front of the symbols.
+-- ◌>>=◌: one reading after another; nothing where one of them gives nothing.
+-- more_of read ss: as many as there are, each after a comma; nothing where a comma has none behind it. more_up_to read
+--   n ss: the same of at most n.
 -- with_front front read: what was read, with those in front of it that were read before.
--- Reads X: what reads an X from the front of the symbols. >>=: one reading after another.
--- NAME_at ss: one part of that name. NAME_in s: the same of the first symbol alone. NAME_by: the same, by
---   what was found in front. A name that says `after` has its first symbol behind it already.
+-- several_at read: one or more, with commas between them.
+-- ident_at, number_at, constant_at: an identifier, a number, a constant of one bit. ident_in, number_in, constant_in:
+--   the same of a first symbol. direction_at: the word of a direction.
+-- range_at: a range, or that there is none where no bracket opens. bounds_after: its two bounds and the closing bracket.
+--   right_bound_at left: the right bound and the closing bracket, where the left bound was read.
+-- header_port_after direction: a port that the header declares, behind its direction. next_port_at, next_port_by: a later
+--   one, which may have its name alone.
+-- idents_at: identifiers, at least one, with commas between them. header_at: the ports in the header, with both
+--   parentheses; none where no parenthesis opens. port_list_after, port_list_by: the same behind the opening one.
+--   plain_at: names alone and the closing one. declared_after direction: ports of which the first has that direction,
+--   and the closing one.
+-- opening_at: the piece that opens the module, as its name and its header.
+-- selected_at: what is selected of a net, all of it where no bracket opens. index_after: the same behind the bracket.
+--   bits_after left: a part of a net behind its left bound and the colon. part_at: a net and what is selected of it.
+-- right_at, right_by: the right side of an assignment. assignment_at: an assignment.
+-- tied_at, tied_by: what a pin is tied to, nothing where the parenthesis closes. tied_net_at: a net or a bit of one.
+--   bit_after name: the bit of that net, behind the bracket.
+-- connection_at: a connection. connections_at: those of an instance, none where the parenthesis closes. instance_at: an
+--   instance.
+-- body_ports_after direction, body_wires_after, assignments_after, instances_at: a statement of each sort, without its
+--   semicolon. statement_at, statement_by: one of any sort. item_at: the same with its semicolon.
 use Rattle.std.specs.Prelude.{ℕ, zero, suc, Bool, false, ◌==◌, List, [], ◌∷◌, ◌++◌, length, drop, if◌then◌else◌, Option, Some, None}
 use Rattle.std.specs.Option.{option_and_then}
 use Rattle.hold_netlist.specs.declared.wire.Direction.{Direction}

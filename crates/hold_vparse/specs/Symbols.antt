@@ -1,17 +1,20 @@
 -- Symbol: what the grammar sees of a token: a word or a sign that it asks for (Marked), an identifier with its place
 --   (Named), a number (Counted), a constant of one bit (Tied), or what stands in no piece of the grammar (Strange).
--- ident t, word_symbol t, symbol_of t: a token as an identifier, as a word, and by its sort.
+-- ident name at: an identifier of that name and place. word_symbol text at, symbol_of sort text at: the symbol of a
+--   word, and that of a token by its sort.
 -- mark_number m: the number of a mark, by which marks are told apart.
--- mark_words: the words of the grammar. mark_of_row row: the mark of the word in that place among them, from 0.
+-- mark_words: the words of the grammar. mark_of_row row: the mark of the word in that place among them, from 0; None
+--   past the last.
 -- word_mark text: the mark of a word of the grammar; None for any other word.
 -- sign_mark text: the mark of a sign of the grammar; None for any other sign. mark_of_sign byte: that of a sign's byte.
 -- marked mark: the symbol of a mark; Strange where there is none.
 -- symbol t: the symbol of a token. A word is an identifier where it is no keyword; an escaped name always is one,
 --   also where it is spelled as a keyword.
 -- symbols ts: the symbols of tokens, in order.
--- is_left_out t: whether the token is a word, a directive or a sign that the profile leaves out. The word
---   `module` is; where it opens the text, that isn't asked. is_in_profile mark: whether the grammar has this keyword inside a
---   piece. is_left_out_sign, is_left_out_as: the same of a sign's text, and of a text by its token's sort.
+-- is_left_out t: whether the token is a keyword, a directive or a sign that the profile leaves out. The word
+--   `module` is; where it opens the text, that isn't asked. is_left_out_as sort text: the same by a token's sort and text.
+-- is_in_profile mark: whether a keyword of this mark isn't left out: one that has a mark, but for `module`.
+-- is_left_out_sign text: whether it is `{` or `#`.
 use Rattle.std.specs.Prelude.{ℕ, List, [], ◌∷◌, map, Bool, true, false, not, ◌&&◌, ◌||◌, ◌==◌, bytes_eq, if◌then◌else◌, Option, Some, None, codes}
 use Rattle.hold_vparse.specs.Number.{number_of}
 use Rattle.std.specs.Option.{option_and_then}

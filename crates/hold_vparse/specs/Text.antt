@@ -4,10 +4,10 @@
 -- IsFirstBad tokens done bad: the pieces `done`, with which the tokens begin, can stand, and the next, bad, can't
 --   stand behind them.
 -- first_left_out ts: the first token that the profile leaves out; None where there is none.
--- is_module t: the word `module`.
--- without_opening ts: the tokens without the word `module` that opens them.
+-- is_module s: whether the symbol is the word `module`.
+-- without_opening ts: the tokens without the word `module` that may open them.
 -- left_out_in done bad: the first token of the bad piece that is left out. The text's first token may be `module`.
--- place_of ts: where the first of the tokens stands.
+-- place_of ts: where the first of the tokens stands; 0 where there is none.
 -- blame bad left_out: what the bad piece is refused for: a token that is left out, else the place where it begins.
 -- blame_at place left_out: the same where it begins at that place.
 -- IsPieceFault tokens fault: the first piece that can't stand is refused so.

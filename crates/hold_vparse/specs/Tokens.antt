@@ -1,7 +1,7 @@
--- IsSeenFront front token: where a token is in sight, it is this one.
--- tokens_from front rest: the tokens that are left: the one in sight, and those of the rest.
--- IsSeen front rest: no lexical fault follows, the symbol in sight is its token's, and where none is in sight,
---   none is left.
+-- IsSeenFront front rest: the symbol in sight is its token's, and where none is in sight, none is left.
+-- tokens_from front rest: the tokens that are left: the one in sight, and those of the rest; none where none is in
+--   sight.
+-- IsSeen front rest: no lexical fault follows, and IsSeenFront holds.
 -- IsFront ts front rest: the token in sight is the first of the tokens ts, and the rest are those behind it.
 -- first_symbol s: the symbol in sight, without where its text lies.
 -- in_sight ts: the symbol of the first of the tokens.

@@ -10,7 +10,7 @@ use hold_base::Stop;
 use hold_netlist::Netlist;
 use std::alloc::Global;
 
-/// Reads a text of structural Verilog, a part of IEEE 1364-2005: one module of scalar and vector ports and wires,
+/// Reads a text of structural Verilog, a profile of IEEE 1364-2005: one module of scalar and vector ports and wires,
 /// assignments of nets, parts and constant bits, and instances whose pins are connected by name. Comments,
 /// attributes and directives that don't change the netlist are passed over.
 ///

@@ -3,6 +3,7 @@
 -- first_row word rows: the place, from 0, of the first row that is the word; None where no row is, so
 --   also where there are no rows. The empty word is a word like any other.
 -- first_row_any_case word rows: the same after both sides are made upper case.
+-- first_row_from word n rows: as first_row, where the rows are numbered from n.
 -- IsFirstRow word rows i: the row at i is the word, and no row before it is.
 -- IsNoRow word rows: no row is the word.
 use Rattle.std.specs.Prelude.{◌≡◌, ◌≢◌, ℕ, ◌+◌, ◌<◌, List, [], ◌∷◌, map, Option, Some, None, bytes_eq, slice_get, if◌then◌else◌}
