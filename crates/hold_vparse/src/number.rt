@@ -2,11 +2,15 @@ ghost use Rattle.std.specs.Prelude.{◌≡◌, ◌≤◌, IfOk, IfSome, IfNone};
 ghost use Rattle.hold_vparse.specs.Number.{number_of};
 
 mod order;
+mod subtraction;
+mod table;
 
 use hold_base::{List, Memory};
 pub(crate) use order::{are_equal, has_same_sums, is_at_most};
 use std::alloc::Global;
 use std::marker::Model;
+pub(crate) use subtraction::distance;
+pub(crate) use table::NumberTable;
 
 /// A number of any length, as decimal digits write it. A contract sees the number.
 #[derive(Drop)]
