@@ -62,3 +62,6 @@ mod SelectedBits
 mod UsedNets
 pub mod DesignLemmas
 mod RolesEqual
+pub mod PlainLemmas
+pub mod NumberTableLemmas
+pub mod SubtractionLemmas

@@ -2,8 +2,8 @@
 -- number_of digits: the number that decimal digits write; leading zeros count for nothing.
 -- value_of n: the number that is kept: a small one by itself, any other by its digits.
 -- IsPlain text: decimal digits alone, and no leading zero; so zero is the empty text.
--- IsKept n: digits are kept only of a number that isn't small, which is one below 2^32, and they are plain.
-use Rattle.std.specs.Prelude.{◌≢◌, ℕ, ◌+◌, ◌-◌, ◌*◌, ◌≤◌, List, [], ◌∷◌, IsTrue, slice_index}
+-- IsKept n: a number is kept by itself where it is small, which is below 2^32, and else by its plain digits.
+use Rattle.std.specs.Prelude.{◌≢◌, ℕ, ◌+◌, ◌-◌, ◌*◌, ◌<◌, ◌≤◌, List, [], ◌∷◌, IsTrue, slice_index}
 use Rattle.std.specs.Char.{is_ascii_digit}
 use Rattle.std.specs.List.{list_all}
 use Rattle.hold_vparse.specs.declared.number.Kept.{Kept}
@@ -25,5 +25,5 @@ pub record IsPlain (text : List ℕ) : Type 0 where
   pub first : slice_index text 0 ≢ 48
 
 abbrev pub IsKept : Kept → Type 0
-IsKept (Small n) = Unit {0}
+IsKept (Small n) = n < 4294967296
 IsKept (Digits digits) = (4294967296 ≤ number_of digits) × IsPlain digits

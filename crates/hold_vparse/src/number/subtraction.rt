@@ -1,10 +1,10 @@
-ghost use Rattle.std.specs.Prelude.{◌≡◌, ◌+◌, ◌-◌, ◌≤◌, reverse, IfOk, IsTrue};
+ghost use Rattle.std.specs.Prelude.{◌≡◌, ◌+◌, ◌-◌, ◌*◌, ◌≤◌, reverse, IfOk, IsTrue};
 ghost use Rattle.std.specs.Char.{is_ascii_digit};
 ghost use Rattle.std.specs.List.{list_all};
 ghost use Rattle.hold_vparse.specs.Number.{number_of, value_of};
 
 use crate::number::order::{digit_at, digit_in, places};
-use crate::number::{Kept, Number, is_at_most};
+use crate::number::{Digits, Kept, Number, is_at_most};
 use hold_base::Memory;
 use std::alloc::Global;
 
@@ -36,14 +36,14 @@ fn difference(alloc: Global, greater: &[u8], less: &Kept) -> Result<Number, Memo
 {
     let mut digits = lowest_first(alloc, greater, less)?;
     digits.reverse();
-    Number::from_digits(alloc, &digits)
+    Number::from_digits(alloc, Digits { text: &digits })
 }
 
-/// The digits of that difference, the last of them first. What a place owes is lent by the next one in tens.
+/// The digits of that difference, the last of them first. What a place lacks is lent to it by the next one in tens.
 fn lowest_first(alloc: Global, greater: &[u8], less: &Kept) -> Result<Vec<u8>, Memory>
     requires digits { IsTrue (list_all is_ascii_digit greater.now) }
     requires less { value_of less.now ≤ number_of greater.now }
-    ensures digits { IfOk result (λ ds. IsTrue (list_all is_ascii_digit ds.items)) }
+    ensures digits { IfOk result (λ ds. IsTrue (list_all is_ascii_digit (reverse ds.items))) }
     ensures value { IfOk result (λ ds. number_of (reverse ds.items) + value_of less.now ≡ number_of greater.now) }
 {
     let count = greater.len().max(places(less));
@@ -52,9 +52,17 @@ fn lowest_first(alloc: Global, greater: &[u8], less: &Kept) -> Result<Vec<u8>, M
     for behind in 0..count {
         let has = digit_in(greater, behind);
         let due = digit_at(less, behind) + owed;
-        let lent = due.saturating_sub(has).div_ceil(10);
-        digits.push(b'0' + (has + lent * 10 - due) as u8)?;
-        owed = lent;
+        owed = tens_lent(has, due);
+        digits.push(b'0' + (has + owed * 10 - due) as u8)?;
     }
     Ok(digits)
+}
+
+/// How many tens a place is lent, so that it has what is due.
+fn tens_lent(has: u64, due: u64) -> u64
+    requires { has ≤ 9 }
+    ensures enough { due ≤ has + result * 10 }
+    ensures tight { has + result * 10 ≤ due + 9 }
+{
+    due.saturating_sub(has).div_ceil(10)
 }

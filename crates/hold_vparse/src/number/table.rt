@@ -2,7 +2,7 @@ ghost use Rattle.std.specs.Prelude.{◌≡◌, [], Some, slice_get, IfOk, OnErr}
 ghost use Rattle.hold_vparse.specs.Number.{number_of, IsPlain};
 ghost use Rattle.hold_vparse.specs.NumberTable.{MayAdd, OneEach};
 
-use crate::number::{Kept, Number, without_zeros};
+use crate::number::{Digits, Kept, Number, without_zeros};
 use hold_base::Memory;
 use hold_netlist::NameTable;
 use itoa::Buffer;
@@ -50,7 +50,10 @@ impl NumberTable {
         match &number.kept {
             Kept::Small(n) => {
                 let mut text = Buffer::new();
-                self.class_of(alloc, without_zeros(text.format(*n).as_bytes()))
+                let digits = Digits {
+                    text: text.format(*n).as_bytes(),
+                };
+                self.class_of(alloc, without_zeros(digits).text)
             }
             Kept::Digits(digits) => self.class_of(alloc, digits.as_slice()),
         }
