@@ -1,5 +1,5 @@
 -- A token's text fits its sort.
-use Rattle.std.proofs.Common.{◌≡◌, ℕ, ◌+◌, Bool, true, false, cond, List, [], ◌∷◌, Option, Some, None, refl, sym, subst, length, drop}
+use Rattle.std.proofs.Common.{◌≡◌, ℕ, ◌+◌, true, false, cond, List, [], ◌∷◌, Option, Some, None, refl, sym, subst, length, drop}
 use Rattle.std.specs.Prelude.{IsTrue, is_some, slice_get, ◌&&◌, ◌==◌}
 use Rattle.std.specs.List.{prefix_len, take_while, list_all}
 use Rattle.std.specs.Char.{is_ascii_digit}

@@ -63,5 +63,6 @@ mod UsedNets
 pub mod DesignLemmas
 mod RolesEqual
 pub mod PlainLemmas
+pub mod SliceGetLemmas
 pub mod NumberTableLemmas
 pub mod SubtractionLemmas

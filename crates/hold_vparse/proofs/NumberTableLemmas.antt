@@ -1,11 +1,11 @@
 -- Tables of numbers: how they grow, and what they tell of a number.
-use Rattle.std.proofs.Common.{◌≡◌, ◌⊎◌, ℕ, zero, suc, ◌+◌, ◌<◌, ◌≤◌, ◌^◌, List, [], ◌∷◌, ◌++◌, Bool, true, false, cond, map, refl, sym, ap, ◌∙◌, subst, bytes_eq, is_none, length, arith, inl, inr, length-append}
+use Rattle.std.proofs.Common.{◌≡◌, ℕ, zero, suc, ◌+◌, ◌<◌, ◌^◌, List, [], ◌∷◌, ◌++◌, Bool, true, false, cond, map, refl, sym, ap, ◌∙◌, subst, bytes_eq, is_none, length, arith, inl, inr, length-append}
 use Rattle.std.specs.Prelude.{Option, None, Some, slice_get}
 use Rattle.std.specs.Fmt.{decimal}
 use Rattle.std.specs.Option.{option_map}
 use Rattle.std.specs.List.{AllByRecursion}
 use Rattle.std.proofs.lemmas.List.{map-append, length-map}
-use Rattle.std.proofs.lemmas.Option.{slice_get-map, slice_get_within}
+use Rattle.std.proofs.lemmas.Option.{slice_get-map}
 use Rattle.std.proofs.lemmas.Slice.Eq.{bytes_eq-Decides}
 use Rattle.hold_netlist.specs.NameTable.{names_of, number_of as named_number}
 use Rattle.hold_vparse.specs.Index.{place_of, IsIndex}
@@ -15,7 +15,9 @@ use Rattle.hold_vparse.specs.Number.{number_of, value_of, IsPlain}
 use Rattle.hold_vparse.specs.NumberTable.{OneEach, numbers_of, IsClassed}
 use Rattle.hold_vparse.proofs.IndexLemmas.{index_more}
 use Rattle.hold_vparse.proofs.NumberLemmas.{number_of-decimal}
+use Rattle.hold_vparse.proofs.Pairs.{all-append}
 use Rattle.hold_vparse.proofs.PlainLemmas.{plain_same}
+use Rattle.hold_vparse.proofs.SliceGetLemmas.{slice_get-seam, slice_get-push}
 
 -- at the place of a name stands that name
 place_of-get : (name : List ℕ) (names : List (List ℕ)) (k : ℕ) → place_of name names ≡ Some k → slice_get names k ≡ Some name
@@ -52,31 +54,15 @@ place_of-none name (x ∷ xs) k h e = by (bytes_eq name x) refl (λ j. place_of-
         cc
     by false other rest (suc k) h e = rest k (behind (place_of name xs) h) e
 
--- a number of the list behind which one more stands
-slice_get-last : (ns : List ℕ) (n i m : ℕ) → slice_get (ns ++ n ∷ []) i ≡ Some m → (slice_get ns i ≡ Some m) ⊎ ((i ≡ length ns) × (n ≡ m))
-slice_get-last [] n zero m h = inr (refl, cc)
-slice_get-last [] n (suc i) m h = cc
-slice_get-last (x ∷ xs) n zero m h = inl h
-slice_get-last (x ∷ xs) n (suc i) m h = elim (slice_get-last xs n i m h) [ inl e ↦ inl e | inr e ↦ inr (omega arith, e.1) ]
-
-slice_get-first : (ns : List ℕ) (n i m : ℕ) → slice_get ns i ≡ Some m → slice_get (ns ++ n ∷ []) i ≡ Some m
-slice_get-first [] n i m h = cc
-slice_get-first (x ∷ xs) n zero m h = h
-slice_get-first (x ∷ xs) n (suc i) m h = slice_get-first xs n i m h
-
-slice_get-at_last : (ns : List ℕ) (n : ℕ) → slice_get (ns ++ n ∷ []) (length ns) ≡ Some n
-slice_get-at_last [] n = refl
-slice_get-at_last (x ∷ xs) n = slice_get-at_last xs n
-
 -- one new number more
 OneEach-more : (ns : List ℕ) (n : ℕ) → OneEach ns → ((i : ℕ) → slice_get ns i ≡ Some n → ⊥) → OneEach (ns ++ n ∷ [])
 OneEach-more ns n h new = record {
-  apart = λ i j m ei ej. elim (slice_get-last ns n i m ei) [
-    | inl first ↦ elim (slice_get-last ns n j m ej) [
+  apart = λ i j m ei ej. elim (slice_get-push ns n i m ei) [
+    | inl first ↦ elim (slice_get-push ns n j m ej) [
       | inl second ↦ h.apart i j m first second
       | inr last ↦ absurd (new i (first ∙ ap Some (sym last.1)))
     ]
-    | inr last ↦ elim (slice_get-last ns n j m ej) [
+    | inr last ↦ elim (slice_get-push ns n j m ej) [
       | inl second ↦ absurd (new j (second ∙ ap Some (sym last.1)))
       | inr other ↦ last.0 ∙ sym other.0
     ]
@@ -109,10 +95,6 @@ number_is_new pairs many name h plain none i e =
     let same : found.0 ≡ name = plain_same found.0 name (plain_at (names_of pairs) i found.0 h.plain found.1) plain found.2 in
     place_of-none name (names_of pairs) i (sym (h.places.places name) ∙ none) (found.1 ∙ ap Some same)
 
-plain_more : (names : List (List ℕ)) (name : List ℕ) → AllByRecursion IsPlain names → IsPlain name → AllByRecursion IsPlain (names ++ name ∷ [])
-plain_more [] name h p = (p, tt)
-plain_more (x ∷ xs) name h p = (h.0, plain_more xs name h.1 p)
-
 names_of-more : (pairs : List (List ℕ × ℕ)) (name : List ℕ) (k : ℕ) → names_of (pairs ++ (name, k) ∷ []) ≡ names_of pairs ++ name ∷ []
 names_of-more pairs name k = map-append (λ (p : List ℕ × ℕ). p.0) pairs ((name, k) ∷ [])
 
@@ -128,7 +110,7 @@ classed_more pairs many name h plain none =
     let told : true ≡ is_none (named_number name pairs) = rw none refl in
     record {
       count = omega (arith, h.count, length-append pairs ((name, many) ∷ []));
-      plain = subst (AllByRecursion IsPlain) (sym (names_of-more pairs name many)) (plain_more (names_of pairs) name h.plain plain);
+      plain = subst (AllByRecursion IsPlain) (sym (names_of-more pairs name many)) (all-append IsPlain (names_of pairs) (name ∷ []) h.plain (plain, tt));
       places = subst (IsIndex (pairs ++ (name, many) ∷ [])) (sym (names_of-more pairs name many)) (index_more pairs (pairs ++ (name, many) ∷ []) (names_of pairs) name true h.places told put);
       one_each = subst OneEach (sym (numbers_of-more pairs name many)) (OneEach-more (numbers_of pairs) (number_of name) h.one_each (number_is_new pairs many name h plain none));
     }
@@ -140,7 +122,7 @@ class_new pairs many name h =
     let count : length (numbers_of pairs) ≡ many = length-map (names_of pairs) number_of ∙ length-map pairs (λ (p : List ℕ × ℕ). p.0) ∙ sym h.count in
     ap (λ (l : List ℕ). slice_get l many) (numbers_of-more pairs name many)
     ∙ ap (slice_get (numbers_of pairs ++ number_of name ∷ [])) (sym count)
-    ∙ slice_get-at_last (numbers_of pairs) (number_of name)
+    ∙ slice_get-seam (numbers_of pairs) [] (number_of name)
 
 -- what a table of names holds once a name that it lacked was added
 added_new : (pairs more : List (List ℕ × ℕ)) (name : List ℕ) (k : ℕ) (new : Bool) → named_number name pairs ≡ None → new ≡ is_none (named_number name pairs)
