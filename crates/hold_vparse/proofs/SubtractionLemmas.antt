@@ -11,9 +11,9 @@ use Rattle.hold_vparse.specs.NumberOrder.{digit, horner}
 use Rattle.hold_vparse.proofs.OrderLemmas.{padded, padded-more}
 use Rattle.hold_vparse.proofs.PlainLemmas.{digits-cons}
 
--- The digits, of which the last stands first, are those of the last places of a difference, and the place before
--- them still owes so much: whatever stands above those places, what the first number has there is what it has above,
--- with the debt, and what is taken from it.
+-- The last places of `due` are taken from those of `has`: that leaves the digits, the last of them first, and the place
+-- above owes so much. Said with any numbers in front: behind their sum with the debt, the first number's places write
+-- as much as the digits do behind the one and the second number's places behind the other.
 pub record IsTaken (behind owed : ℕ) (digits has due : List ℕ) : Type 0 where
   pub count : length digits ≡ behind
   pub decimal : IsTrue (list_all is_ascii_digit (reverse digits))
