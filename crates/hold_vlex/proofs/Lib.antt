@@ -2,3 +2,4 @@ pub mod FrontLemmas
 pub mod LexedLemmas
 pub mod PastLemmas
 pub mod SliceLemmas
+pub mod SortLemmas

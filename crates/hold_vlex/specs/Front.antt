@@ -20,9 +20,10 @@
 -- number_sort run: the sort of a run that begins with a digit or an apostrophe: Number where all are digits,
 --   Constant where it is `1'`, a base and `0` or `1`, and nothing more; else Other.
 -- constant_sort run: the same where not all are digits.
+-- fits_sort sort text: whether a number's text is digits alone. Of any other sort nothing is asked.
 -- whole sort text: a token whose text is all that it takes.
 -- front text: what stands at the front of the text.
-use Rattle.std.specs.Prelude.{ℕ, ◌+◌, ◌<◌, ◌≤◌, true, false, ◌&&◌, ◌==◌, if◌then◌else◌, List, [], ◌∷◌, length, drop, slice_get, Option, Some, None, is_some, codes}
+use Rattle.std.specs.Prelude.{ℕ, ◌+◌, ◌<◌, ◌≤◌, Bool, true, false, ◌&&◌, ◌==◌, if◌then◌else◌, List, [], ◌∷◌, length, drop, slice_get, Option, Some, None, is_some, codes}
 use Rattle.std.specs.List.{prefix_len, take_while, list_all}
 use Rattle.std.specs.Char.{is_ascii_digit}
 use Rattle.hold_words.specs.Rows.{first_row}
@@ -89,6 +90,15 @@ constant_sort _ = Other
 
 unfoldable pub number_sort : List ℕ → Sort
 number_sort run = if list_all is_ascii_digit run then Number else constant_sort run
+
+abbrev pub fits_sort : Sort → List ℕ → Bool
+fits_sort Number text = list_all is_ascii_digit text
+fits_sort Word text = true
+fits_sort Escaped text = true
+fits_sort (Constant value) text = true
+fits_sort Directive text = true
+fits_sort Sign text = true
+fits_sort Other text = true
 
 abbrev pub whole : Sort → List ℕ → Front
 whole sort text = Read sort text (length text)

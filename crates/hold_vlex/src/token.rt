@@ -1,3 +1,6 @@
+ghost use Rattle.std.specs.Prelude.{IsTrue};
+ghost use Rattle.hold_vlex.specs.Front.{fits_sort};
+
 /// What a token is (a profile of IEEE 1364-2005).
 #[derive(Clone, Copy, Debug, PartialEq, Eq)]
 pub enum Sort {
@@ -26,4 +29,5 @@ pub struct Token<'a> {
     /// The place where it begins in the text that was read, from 0: that of its first byte, and of an escaped
     /// name that of the backslash, one before its first byte.
     pub at: u64,
+    pub ghost fits: { IsTrue (fits_sort sort text.now) },
 }

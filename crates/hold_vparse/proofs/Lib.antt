@@ -62,3 +62,7 @@ mod SelectedBits
 mod UsedNets
 pub mod DesignLemmas
 mod RolesEqual
+pub mod PlainLemmas
+pub mod SliceGetLemmas
+pub mod NumberTableLemmas
+pub mod SubtractionLemmas

@@ -1,7 +1,12 @@
 -- What a number is whose first digits are read, and that decimal digits write the number that std reads in them.
-use Rattle.std.proofs.Common.{◌≡◌, ℕ, zero, suc, ◌+◌, ◌-◌, ◌*◌, ◌<◌, ◌≤◌, List, [], ◌∷◌, length, drop, get_or, refl, ◌∙◌, ap, arith}
-use Rattle.std.specs.Char.{digit_value}
+use Rattle.std.proofs.Common.{◌≡◌, ℕ, zero, suc, ◌+◌, ◌-◌, ◌*◌, ◌<◌, ◌≤◌, ◌^◌, true, List, [], ◌∷◌, length, drop, get_or, refl, ◌∙◌, ap, arith}
+use Rattle.std.specs.Char.{digit_value, is_ascii_digit}
+use Rattle.std.specs.Fmt.{decimal}
+use Rattle.std.specs.List.{list_all}
+use Rattle.std.specs.Prelude.{IsTrue}
 use Rattle.std.specs.Str.Parse.{AllDigits, digits_value, digits_value_after}
+use Rattle.std.proofs.lemmas.Bool.Decides.{nat_tests}
+use Rattle.std.proofs.lemmas.Fmt.{decimal_is_IsNumeral}
 use Rattle.std.proofs.lemmas.Str.{digit_value_digit}
 use Rattle.std.proofs.lemmas.Str.Parse.{digit_from_value}
 use Rattle.hold_vparse.specs.Number.{number_from, number_of}
@@ -33,3 +38,18 @@ number_from-digits n (d ∷ ds) h =
 
 pub number_of-digits : (digits : List ℕ) → AllDigits 10 digits → number_of digits ≡ digits_value 10 digits
 number_of-digits digits h = number_from-digits 0 digits h
+
+-- decimal digits as bytes
+pub is_digit-from_value : (c : ℕ) → digit_value c < 10 → is_ascii_digit c ≡ true
+is_digit-from_value c h = let bounds = digit_from_value c h in grind (arith, nat_tests)
+
+pub all-digits : (ds : List ℕ) → AllDigits 10 ds → list_all is_ascii_digit ds ≡ true
+all-digits [] h = refl
+all-digits (c ∷ cs) h = rw (is_digit-from_value c h.0) (all-digits cs h.1)
+
+-- what std writes of a number
+pub decimal-digits : (n : ℕ) → n < 2 ^ 64 → IsTrue (list_all is_ascii_digit (decimal n))
+decimal-digits n small = let h = decimal_is_IsNumeral n small in all-digits (decimal n) h.0.1
+
+pub number_of-decimal : (n : ℕ) → n < 2 ^ 64 → number_of (decimal n) ≡ n
+number_of-decimal n small = let h = decimal_is_IsNumeral n small in number_of-digits (decimal n) h.0.1 ∙ h.1

@@ -13,7 +13,7 @@ use Rattle.hold_vparse.specs.Number.{value_of, number_from}
 use Rattle.hold_vparse.specs.NumberOrder.{digits_of, digit, last_sums, horner, is_equal, is_not_greater}
 
 -- the digits write the number
-number_from-horner : (n : ℕ) (ds : List ℕ) → number_from n ds ≡ horner n (map (λ d. d - 48) ds)
+pub number_from-horner : (n : ℕ) (ds : List ℕ) → number_from n ds ≡ horner n (map (λ d. d - 48) ds)
 number_from-horner n [] = refl
 number_from-horner n (d ∷ ds) = number_from-horner (n * 10 + (d - 48)) ds
 
@@ -22,7 +22,7 @@ value_of-horner (Small n) = omega arith
 value_of-horner (Digits ds) = number_from-horner 0 ds
 
 -- the last places of a number
-padded : ℕ → List ℕ → List ℕ
+unfoldable pub padded : ℕ → List ℕ → List ℕ
 padded zero ds = []
 padded (suc k) ds = digit k ds ∷ padded k ds
 
@@ -52,7 +52,7 @@ unfolding padded
 padded-length [] = refl
 padded-length (d ∷ ds) = ap (λ x. x ∷ padded (length ds) (d ∷ ds)) (digit-first d ds) ∙ ap (λ l. d ∷ l) (padded-cons (length ds) d ds (omega arith) ∙ padded-length ds)
 
-padded-more : (k : ℕ) (ds : List ℕ) → length ds ≤ k → horner 0 (padded k ds) ≡ horner 0 ds
+pub padded-more : (k : ℕ) (ds : List ℕ) → length ds ≤ k → horner 0 (padded k ds) ≡ horner 0 ds
 unfolding padded
 padded-more zero [] h = refl
 padded-more zero (d ∷ ds) h = absurd (omega arith)

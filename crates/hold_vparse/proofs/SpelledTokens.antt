@@ -5,10 +5,9 @@ use Rattle.std.proofs.Common.{◌≡◌, ◌≢◌, ℕ, suc, ◌+◌, ◌<◌, 
 use Rattle.std.specs.Prelude.{◌&&◌, ◌==◌, not, slice_get, codes, decimal}
 use Rattle.std.specs.List.{prefix_len, take_while, list_all, AllByRecursion}
 use Rattle.std.specs.Str.Parse.{AllDigits, digits_value}
-use Rattle.std.specs.Char.{is_ascii_digit, digit_value}
+use Rattle.std.specs.Char.{is_ascii_digit}
 use Rattle.std.proofs.lemmas.Bool.Decides.{nat_tests}
 use Rattle.std.proofs.lemmas.Fmt.{decimal_is_IsNumeral}
-use Rattle.std.proofs.lemmas.Str.Parse.{digit_from_value}
 use Rattle.std.proofs.Math.Seq.{drop-append_seam}
 use Rattle.hold_netlist.specs.Names.{IsName, is_among}
 use Rattle.hold_netlist.specs.Keywords.{keywords}
@@ -21,7 +20,8 @@ use Rattle.hold_vlex.specs.declared.token.Sort.TheVariants.{Word, Escaped, Numbe
 use Rattle.hold_vparse.specs.declared.mark.Mark.{Mark}
 use Rattle.hold_vparse.specs.declared.mark.Mark.TheVariants.{Comma, Semicolon, Colon, Dot, Equals, LeftParenthesis, RightParenthesis, LeftBracket, RightBracket}
 use Rattle.hold_vparse.specs.Symbols.{Symbol, Marked, Named, Counted, Tied, ident, word_symbol, sign_mark}
-use Rattle.hold_vparse.proofs.NumberLemmas.{number_of-digits}
+use Rattle.hold_vparse.proofs.NumberLemmas.{number_of-digits, is_digit-from_value, all-digits}
+use Rattle.hold_vparse.proofs.SliceGetLemmas.{slice_get-seam}
 use Rattle.hold_vparse.proofs.Spells.{Spells, Spells-past, Spells-read, join, Stops, prefix_len-run, take_while-run}
 
 abbrev pub Breaks : List ℕ → Type 0
@@ -78,10 +78,6 @@ Spells-word at (b ∷ bs) rest h stop = by_first (is_letter b) refl h
     by_first false e h = absurd cc
 
 -- an escaped name and the space behind it
-slice_get-seam : (xs : List ℕ) (y : ℕ) (ys : List ℕ) → slice_get (xs ++ y ∷ ys) (length xs) ≡ Some y
-slice_get-seam [] y ys = refl
-slice_get-seam (x ∷ xs) y ys = slice_get-seam xs y ys
-
 all-printed : (bs : List ℕ) → AllByRecursion (λ b. (33 ≤ b) × (b ≤ 126)) bs → list_all is_printed bs ≡ true
 all-printed [] h = refl
 all-printed (b ∷ bs) h =
@@ -97,7 +93,7 @@ unfolding front
 front-escaped name rest h =
     let all : list_all is_printed name ≡ true = all-printed name h.bytes in
     let run : take_while is_printed (name ++ 32 ∷ rest) ≡ name = take_while-run is_printed name (32 ∷ rest) all refl in
-    let next : slice_get (name ++ 32 ∷ rest) (prefix_len is_printed (name ++ 32 ∷ rest)) ≡ Some 32 = rw (prefix_len-run is_printed name (32 ∷ rest) all refl) (slice_get-seam name 32 rest) in
+    let next : slice_get (name ++ 32 ∷ rest) (prefix_len is_printed (name ++ 32 ∷ rest)) ≡ Some 32 = rw (prefix_len-run is_printed name (32 ∷ rest) all refl) (slice_get-seam name rest 32) in
     ap (λ (l : List ℕ). escaped l (slice_get (name ++ 32 ∷ rest) (prefix_len is_printed (name ++ 32 ∷ rest)))) run
     ∙ ap (escaped name) next
     ∙ escaped-name name h.some
@@ -137,15 +133,8 @@ front-number b bs h =
     let no_word : begins_word b ≡ false = grind (arith, nat_tests) in
     rw (blank, no_slash, no_parenthesis, no_backquote, no_backslash, no_word, h) refl
 
-is_digit-from_value : (c : ℕ) → digit_value c < 10 → is_ascii_digit c ≡ true
-is_digit-from_value c h = let bounds = digit_from_value c h in grind (arith, nat_tests)
-
 is_digit-continues : (c : ℕ) → is_ascii_digit c ≡ true → continues_number c ≡ true
 is_digit-continues c h = grind (arith, nat_tests)
-
-all-digits : (ds : List ℕ) → AllDigits 10 ds → list_all is_ascii_digit ds ≡ true
-all-digits [] h = refl
-all-digits (c ∷ cs) h = rw (is_digit-from_value c h.0) (all-digits cs h.1)
 
 digits-continue : (ds : List ℕ) → AllDigits 10 ds → list_all continues_number ds ≡ true
 digits-continue [] h = refl

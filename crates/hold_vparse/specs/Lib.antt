@@ -11,6 +11,7 @@ pub mod Found
 pub mod Widths
 pub mod NamedTree
 pub mod NumberOrder
+pub mod NumberTable
 pub mod DoubleNames
 pub mod Flat
 pub mod Uses

@@ -7,6 +7,6 @@ use Rattle.hold_vparse.specs.Symbols.{Symbol, Marked, Named, Counted, Tied, Stra
 abbrev pub shown : Found → Symbol
 shown (FoundMark m) = Marked m
 shown (FoundName name at) = Named (ident name.now at)
-shown (FoundNumber digits) = Counted (number_of digits.now)
+shown (FoundNumber digits) = Counted (number_of digits.text.now)
 shown (FoundConstant value) = Tied value
 shown FoundStrange = Strange

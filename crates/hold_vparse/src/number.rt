@@ -1,12 +1,18 @@
 ghost use Rattle.std.specs.Prelude.{◌≡◌, ◌≤◌, IfOk, IfSome, IfNone};
-ghost use Rattle.hold_vparse.specs.Number.{number_of};
+ghost use Rattle.hold_vparse.specs.Number.{number_of, IsPlain};
 
+mod digits;
 mod order;
+mod subtraction;
+mod table;
 
+pub use digits::Digits;
 use hold_base::{List, Memory};
 pub(crate) use order::{are_equal, has_same_sums, is_at_most};
 use std::alloc::Global;
 use std::marker::Model;
+pub(crate) use subtraction::distance;
+pub(crate) use table::NumberTable;
 
 /// A number of any length, as decimal digits write it. A contract sees the number.
 #[derive(Drop)]
@@ -37,15 +43,15 @@ impl Model for Number {
 
 impl Number {
     /// The number that these digits write.
-    pub fn from_digits(alloc: Global, digits: &[u8]) -> Result<Number, Memory>
-        ensures { IfOk result (λ number. number ≡ number_of digits.now) }
+    pub fn from_digits(alloc: Global, digits: Digits<'_>) -> Result<Number, Memory>
+        ensures { IfOk result (λ number. number ≡ number_of digits.entry.text.now) }
     {
-        match small(digits) {
+        match small(digits.text) {
             Some(n) => Ok(Number {
                 kept: Kept::Small(n),
             }),
             None => {
-                let digits = Vec::from_slice(alloc, without_zeros(digits))?;
+                let digits = Vec::from_slice(alloc, without_zeros(digits).text)?;
                 Ok(Number {
                     kept: Kept::Digits(List::from_vec(digits)),
                 })
@@ -66,14 +72,15 @@ impl Number {
 }
 
 /// These digits without leading zeros, which would only be walked again and again.
-fn without_zeros(digits: &[u8]) -> &[u8]
-    ensures { number_of result.now ≡ number_of digits.now }
+fn without_zeros(digits: Digits<'_>) -> Digits<'_>
+    ensures value { number_of result.text.now ≡ number_of digits.entry.text.now }
+    ensures plain { IsPlain result.text.now }
 {
-    let mut rest = digits;
-    while let [b'0', behind @ ..] = rest {
-        rest = behind;
+    let mut text = digits.text;
+    while let [b'0', behind @ ..] = text {
+        text = behind;
     }
-    rest
+    Digits { text }
 }
 
 /// The number that these digits write, where it is below 2^32.

@@ -5,6 +5,7 @@ ghost use Rattle.hold_vparse.specs.Shown.{shown};
 
 use crate::keyword::is_keyword;
 use crate::mark::Mark;
+use crate::number::Digits;
 use hold_vlex::{Sort, Token};
 
 /// What the grammar sees of a token.
@@ -15,7 +16,7 @@ pub enum Symbol<'a> {
     /// An identifier and its place.
     Name(&'a [u8], u64),
     /// The digits of a number.
-    Number(&'a [u8]),
+    Number(Digits<'a>),
     /// A constant of one bit.
     Constant(bool),
     /// What stands in no piece of the grammar.
@@ -30,7 +31,7 @@ impl<'a> Symbol<'a> {
         match token.sort {
             Sort::Word => Symbol::of_word(token.text, token.at),
             Sort::Escaped => Symbol::Name(token.text, token.at),
-            Sort::Number => Symbol::Number(token.text),
+            Sort::Number => Symbol::Number(Digits { text: token.text }),
             Sort::Constant(value) => Symbol::Constant(value),
             Sort::Sign => Symbol::of_mark(Mark::of_sign(token.text)),
             Sort::Directive | Sort::Other => Symbol::Strange,

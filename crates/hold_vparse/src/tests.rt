@@ -5,6 +5,7 @@ mod bits;
 mod double_names;
 mod limits;
 mod nets;
+mod numbers;
 mod parts;
 mod ports;
 mod syntax;

@@ -10,7 +10,7 @@ use std::cmp::Ordering;
 const MOST: u64 = 1 << 33;
 
 /// How many digits there are.
-fn places(kept: &Kept) -> usize
+pub(super) fn places(kept: &Kept) -> usize
     ensures { result ≡ length (digits_of kept.now) }
 {
     match kept {
@@ -20,7 +20,7 @@ fn places(kept: &Kept) -> usize
 }
 
 /// The digit that has so many behind it.
-fn digit_at(kept: &Kept, behind: usize) -> u64
+pub(super) fn digit_at(kept: &Kept, behind: usize) -> u64
     ensures digit { result ≡ digit behind (digits_of kept.now) }
     ensures small { result ≤ 4294967295 }
 {
@@ -31,7 +31,7 @@ fn digit_at(kept: &Kept, behind: usize) -> u64
 }
 
 /// The same of digits as they are written.
-fn digit_in(digits: &[u8], behind: usize) -> u64
+pub(super) fn digit_in(digits: &[u8], behind: usize) -> u64
     ensures digit { result ≡ digit behind (map (λ d. d - 48) digits.now) }
     ensures small { result ≤ 4294967295 }
 {

@@ -1,6 +1,7 @@
 use Rattle.std.proofs.Common.{arith, sym, ◌∙◌, ap}
 use Rattle.hold_vlex.specs.Front.{front, Nothing, Past, Read, Bad, NoEnd, NoName}
 use Rattle.hold_vlex.proofs.LexedLemmas.{lexed_at-front, IsNext-None, IsNext-Some, IsNext-Err}
+use Rattle.hold_vlex.proofs.SortLemmas.{read-fits}
 use Rattle.hold_vlex.proofs.lexer.next_at.Goals as goal
 
 pub returns-in-Nothing-clause-next : goal.returns-in-Nothing-clause-next
@@ -38,3 +39,6 @@ returns-in-NoName-clause-next c =
     let found = c.in-NoName.ensures.front ∙ ap front c.split_at.ensures.back in
     IsNext-Err _ _ _ c.loop-n.invariant.0
     (sym c.loop-n.invariant.0 ∙ lexed_at-front c.loop-n.place c.args.text.now NoName found)
+
+pub invariant_of-result : goal.invariant_of-result
+invariant_of-result c = record { fits = read-fits _ c.in-Read.text.now c.in-Read.sort c.in-Read.n c.in-Read.ensures.front }
