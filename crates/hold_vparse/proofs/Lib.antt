@@ -1,5 +1,9 @@
 pub mod IndexLemmas
 pub mod LineLemmas
+pub mod RangeLemmas
+pub mod PlaceLemmas
+pub mod NetRangeLemmas
+pub mod UnlikeLemmas
 pub mod UseLemmas
 pub mod PartLemmas
 pub mod RowLemmas

@@ -2,6 +2,12 @@
 use Rattle.std.proofs.Common.{◌≡◌, ◌⊎◌, ℕ, zero, suc, List, [], ◌∷◌, ◌++◌, length, refl, inl, inr, arith}
 use Rattle.std.specs.Prelude.{Some, slice_get}
 
+-- what stands in a list stands there in a longer one
+pub slice_get-append : {X : Type 0} (xs ys : List X) (k : ℕ) (x : X) → slice_get xs k ≡ Some x → slice_get (xs ++ ys) k ≡ Some x
+slice_get-append [] ys k x h = absurd cc
+slice_get-append (y ∷ xs) ys zero x h = h
+slice_get-append (y ∷ xs) ys (suc k) x h = slice_get-append xs ys k x h
+
 -- where a list ends the next one begins
 pub slice_get-seam : {X : Type 0} (xs ys : List X) (x : X) → slice_get (xs ++ x ∷ ys) (length xs) ≡ Some x
 slice_get-seam [] ys x = refl

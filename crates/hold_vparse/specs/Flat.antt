@@ -8,7 +8,6 @@
 -- named_idents wires: the identifiers of these lines.
 -- net_wire w: the wire that a line declares.
 -- net_wires wires: the wires of these lines.
--- seen_reach reach: the range behind a reference, where there is a net, and where it has one.
 use Rattle.std.specs.Prelude.{ℕ, Option, Some, None, List, [], ◌∷◌, map}
 use Rattle.std.specs.Borrow.{Bor}
 use Rattle.hold_vparse.specs.declared.tree.Ident.{Ident}
@@ -63,10 +62,6 @@ net_wire w = wire w.name.now.name (seen_range w.range)
 
 abbrev pub net_wires : List NamedWire → List Wire
 net_wires wires = map net_wire wires
-
-abbrev pub seen_reach : Option (Option (Bor Range)) → Option (Option (ℕ × ℕ))
-seen_reach None = None
-seen_reach (Some r) = Some (seen_range r)
 
 abbrev pub seen_mention : Named → Mention
 seen_mention m = mention m.role m.name.now

@@ -1,4 +1,5 @@
 pub mod Number
+pub mod Bounds
 pub mod Index
 pub mod Symbols
 pub mod Pieces
@@ -8,6 +9,8 @@ pub mod Lines
 pub mod Nets
 pub mod Soonest
 pub mod Found
+pub mod Measured
+pub mod Ranges
 pub mod Widths
 pub mod NamedTree
 pub mod NumberOrder

@@ -11,6 +11,7 @@ use crate::bit_faults::{misfit_in_assignments, misfit_in_instances};
 use crate::lines::header_names_in;
 use crate::parts::Parts;
 use crate::port_faults::{undirected_ident, unlike_ident, unlisted_ident};
+use crate::ranged_nets::RangedNets;
 use crate::soonest::soonest_of;
 use crate::tree::Ident;
 use crate::wire_list::has_large_bounds;
@@ -21,7 +22,7 @@ pub(crate) fn misdeclared_ident<'a>(parts: &Parts<'a>) -> Option<&'a Ident>
 {
     let undirected = undirected_ident(header_names_in(&parts.tree.header), parts.port_lines);
     let unlisted = unlisted_ident(parts.body_lines, parts.listed);
-    let unlike = unlike_ident(parts.wire_lines, parts.port_lines);
+    let unlike = unlike_ident(parts.wire_lines, parts.port_lines, parts.ranges);
     soonest_of(undirected, soonest_of(unlisted, unlike))
 }
 
@@ -29,8 +30,12 @@ pub(crate) fn misdeclared_ident<'a>(parts: &Parts<'a>) -> Option<&'a Ident>
 pub(crate) fn misfit_ident<'a>(parts: &Parts<'a>) -> Option<&'a Ident>
     ensures { found_ident result ≡ soonest (misfit parts.now.tree.now) }
 {
-    let assigned = misfit_in_assignments(parts.nets, parts.assignments);
-    let connected = misfit_in_instances(parts.nets, parts.instances);
+    let nets = RangedNets {
+        nets: parts.nets,
+        ranges: parts.ranges,
+    };
+    let assigned = misfit_in_assignments(&nets, parts.assignments);
+    let connected = misfit_in_instances(&nets, parts.instances);
     soonest_of(assigned, connected)
 }
 

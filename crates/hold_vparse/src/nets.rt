@@ -1,14 +1,11 @@
-ghost use Rattle.std.specs.Prelude.{◌≡◌, slice_get, IfOk};
-ghost use Rattle.std.specs.Option.{option_map};
+ghost use Rattle.std.specs.Prelude.{◌≡◌, IfOk};
 ghost use Rattle.hold_netlist.specs.Names.{wire_names};
-ghost use Rattle.hold_netlist.specs.declared.wire.Wire.{Wire};
-ghost use Rattle.hold_vparse.specs.BitFaults.{reach};
-ghost use Rattle.hold_vparse.specs.Flat.{targets, net_wires, named_idents, seen_reach};
+ghost use Rattle.hold_vparse.specs.Flat.{targets, net_wires, named_idents};
 ghost use Rattle.hold_vparse.specs.Index.{place_of};
 
 use crate::index::Index;
 use crate::lines::NamedWire;
-use crate::tree::{Ident, Range};
+use crate::tree::Ident;
 use hold_base::{Memory, Name};
 use std::alloc::Global;
 use std::marker::Model;
@@ -65,25 +62,5 @@ impl<'a> Nets<'a> {
         ensures { result ≡ place_of name.now (wire_names self.now) }
     {
         self.index.place(name)
-    }
-
-    /// Whether there is a net of this name, and its range where it has one.
-    pub(crate) fn reach(&self, name: &Name) -> Option<Option<&'a Range>>
-        ensures { seen_reach result ≡ reach self.now name.now }
-    {
-        match self.index.place(name) {
-            Some(place) => range_at(&self.wires, place),
-            None => None,
-        }
-    }
-}
-
-/// The range of the wire at a place, where there is one.
-fn range_at<'a>(wires: &[NamedWire<'a>], place: u32) -> Option<Option<&'a Range>>
-    ensures { seen_reach result ≡ option_map (λ (w : Wire). w.range) (slice_get (net_wires wires.now) place) }
-{
-    match wires.get(place as usize) {
-        Some(wire) => Some(wire.range),
-        None => None,
     }
 }

@@ -59,6 +59,15 @@ impl Number {
         }
     }
 
+    /// Zero, which takes no memory.
+    pub(crate) fn zero() -> Number
+        ensures { result ≡ 0 }
+    {
+        Number {
+            kept: Kept::Small(0),
+        }
+    }
+
     /// The number, where it is below 2^32.
     pub fn small(&self) -> Option<u32>
         ensures some { IfSome result (λ n. n ≡ self.now) }

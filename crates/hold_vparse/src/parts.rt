@@ -2,13 +2,15 @@ ghost use Rattle.std.specs.Prelude.{◌≡◌, ◌++◌, IfOk};
 ghost use Rattle.hold_vparse.specs.DoubleNames.{mentions as mentions_of};
 ghost use Rattle.hold_vparse.specs.Flat.{targets, seen_ports, seen_wires, seen_mentions, seen_instances};
 ghost use Rattle.hold_vparse.specs.Lines.{header_names, header_lines, body_lines as body_lines_of, ports_of, wire_lines as wire_lines_of, assignments as assignments_of, instances as instances_of};
-ghost use Rattle.hold_vparse.specs.Nets.{names, declared_names, nets as nets_of};
+ghost use Rattle.hold_vparse.specs.Nets.{names, port_idents, declared_names, nets as nets_of};
+ghost use Rattle.hold_vparse.specs.Ranges.{ranges_of};
 
 use crate::index::Index;
 use crate::lines::{NamedWire, Port, add_body_lines, header_names_in, port_lines_in};
 use crate::mentions::Mention;
 use crate::nets::Nets;
 use crate::ports::{Ports, header_idents, ports_of_header};
+use crate::ranges::Ranges;
 use crate::tree::{Assignment, Ident, Instance, Module};
 use crate::wires::{all_wires, declared_idents};
 use hold_base::Memory;
@@ -31,6 +33,8 @@ pub(crate) struct Parts<'a> {
     /// The names that are declared as nets.
     pub declared: &'a Index<'a>,
     pub nets: &'a Nets<'a>,
+    /// The ranges of the lines and nets.
+    pub ranges: &'a Ranges<'a>,
     pub assignments: &'a [&'a Assignment],
     /// Each with the name of its type.
     pub instances: &'a [(&'a Ident, &'a Instance)],
@@ -42,6 +46,7 @@ pub(crate) struct Parts<'a> {
     ghost all_mentions: { seen_mentions mentions.now ≡ mentions_of tree.now },
     ghost all_declared: { names declared.now ≡ declared_names tree.now },
     ghost all_nets: { nets.now ≡ nets_of tree.now },
+    ghost all_ranges: { ranges.now ≡ ranges_of tree.now },
     ghost all_assignments: { targets assignments.now ≡ assignments_of tree.now.items },
     ghost all_instances: { seen_instances instances.now ≡ instances_of tree.now.items },
 }
@@ -109,23 +114,31 @@ pub(crate) fn all_declared<'a>(
     Index::of(alloc, idents)
 }
 
+/// The ports in the header.
+pub(crate) fn all_headed(alloc: Global, tree: &Module) -> Result<Index<'_>, Memory>
+    ensures { IfOk result (λ headed. headed ≡ port_idents tree.now) }
+{
+    let idents = header_idents(alloc, &tree.header)?;
+    Index::of(alloc, idents)
+}
+
 /// All nets.
 pub(crate) fn all_nets<'a>(
     alloc: Global,
     tree: &'a Module,
+    header: &Index<'a>,
     ports: &[Port<'a>],
     lines: &[NamedWire<'a>],
     declared: &Index<'a>,
     mentions: &[Mention<'a>],
 ) -> Result<Nets<'a>, Memory>
+    requires header { header.now ≡ port_idents tree.now }
     requires ports { seen_ports ports.now ≡ ports_of tree.now }
     requires lines { seen_wires lines.now ≡ wire_lines_of tree.now.items }
     requires declared { names declared.now ≡ declared_names tree.now }
     requires mentions { seen_mentions mentions.now ≡ mentions_of tree.now }
     ensures { IfOk result (λ nets. nets ≡ nets_of tree.now) }
 {
-    let headed = header_idents(alloc, &tree.header)?;
-    let headed = Index::of(alloc, headed)?;
-    let wires = all_wires(alloc, ports, &headed, lines, declared, mentions)?;
+    let wires = all_wires(alloc, ports, header, lines, declared, mentions)?;
     Nets::of(alloc, wires)
 }

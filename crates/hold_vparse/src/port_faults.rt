@@ -6,15 +6,16 @@ ghost use Rattle.hold_vparse.specs.Flat.{seen_port, seen_ports, seen_wire, seen_
 ghost use Rattle.hold_vparse.specs.Found.{found_ident};
 ghost use Rattle.hold_vparse.specs.Lines.{PortLine, WireLine, line_of};
 ghost use Rattle.hold_vparse.specs.Nets.{names};
-ghost use Rattle.hold_vparse.specs.PortFaults.{same_range, later, unlike_line};
+ghost use Rattle.hold_vparse.specs.PortFaults.{later, unlike_line};
+ghost use Rattle.hold_vparse.specs.Ranges.{line_range, port_ranges, wire_ranges};
 ghost use Rattle.hold_vparse.specs.Soonest.{soonest};
 
 use crate::index::Index;
 use crate::lines::{NamedWire, Port};
-use crate::number::are_equal;
 use crate::ports::Ports;
+use crate::ranges::Ranges;
 use crate::soonest::soonest_of;
-use crate::tree::{Ident, Range};
+use crate::tree::Ident;
 
 /// This port, where no line gives it a direction.
 fn undirected_port<'a>(name: &'a Ident, lines: &Ports<'a>) -> Option<&'a Ident>
@@ -59,17 +60,6 @@ pub(crate) fn unlisted_ident<'a>(lines: &[Port<'a>], listed: &Index<'a>) -> Opti
     found
 }
 
-/// Whether two ranges have the same bounds, or neither has any.
-fn have_same_bounds(left: Option<&Range>, right: Option<&Range>) -> bool
-    ensures { result ≡ same_range (seen_range left.entry) (seen_range right.entry) }
-{
-    match (left, right) {
-        (None, None) => true,
-        (Some(r), Some(s)) => are_equal(&r.left, &s.left) && are_equal(&r.right, &s.right),
-        _ => false,
-    }
-}
-
 /// Whichever stands later in the text.
 fn later_of<'a>(i: &'a Ident, j: &'a Ident) -> &'a Ident
     ensures { result.now ≡ later i.now j.now }
@@ -77,12 +67,22 @@ fn later_of<'a>(i: &'a Ident, j: &'a Ident) -> &'a Ident
     if i.at < j.at { j } else { i }
 }
 
-/// The later declaration of a port and a wire of its name whose range is another.
-fn unlike_wire<'a>(wire: &NamedWire<'a>, lines: &Ports<'a>) -> Option<&'a Ident>
+/// The later declaration of a port and the wire line of this number, if it has the port's name and another range.
+fn unlike_wire<'a>(
+    number: usize,
+    wire: &NamedWire<'a>,
+    lines: &Ports<'a>,
+    ranges: &Ranges<'a>,
+) -> Option<&'a Ident>
+    requires wires { line_range ranges.now.wires number ≡ seen_range wire.now.range }
+    requires ports { ranges.now.ports ≡ port_ranges lines.now }
     ensures { found_ident result ≡ soonest (unlike_line (seen_wire wire.now) (line_of wire.now.name.now.name lines.now)) }
 {
-    match lines.find(&wire.name.name) {
-        Some(line) if !have_same_bounds(wire.range, line.range) => {
+    let Some(place) = lines.place(&wire.name.name) else {
+        return None;
+    };
+    match lines.get(place) {
+        Some(line) if !ranges.have_same_bounds(number, place) => {
             Some(later_of(wire.name, line.name))
         }
         _ => None,
@@ -90,12 +90,18 @@ fn unlike_wire<'a>(wire: &NamedWire<'a>, lines: &Ports<'a>) -> Option<&'a Ident>
 }
 
 /// The first of the later declarations of ports and wires whose ranges differ.
-pub(crate) fn unlike_ident<'a>(wires: &[NamedWire<'a>], lines: &Ports<'a>) -> Option<&'a Ident>
+pub(crate) fn unlike_ident<'a>(
+    wires: &[NamedWire<'a>],
+    lines: &Ports<'a>,
+    ranges: &Ranges<'a>,
+) -> Option<&'a Ident>
+    requires wires { ranges.now.wires ≡ wire_ranges (seen_wires wires.now) }
+    requires ports { ranges.now.ports ≡ port_ranges lines.now }
     ensures { found_ident result ≡ soonest (flat_map (λ (w : WireLine). unlike_line w (line_of w.name.name lines.now)) (seen_wires wires.now)) }
 {
     let mut found = None;
-    for wire in wires {
-        found = soonest_of(found, unlike_wire(wire, lines));
+    for (number, wire) in wires.iter().enumerate() {
+        found = soonest_of(found, unlike_wire(number, wire, lines, ranges));
     }
     found
 }

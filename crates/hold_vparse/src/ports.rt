@@ -1,7 +1,9 @@
-ghost use Rattle.std.specs.Prelude.{◌≡◌, ◌++◌, map, IfOk};
+ghost use Rattle.std.specs.Prelude.{◌≡◌, ◌++◌, map, slice_get, IfOk};
 ghost use Rattle.hold_vparse.specs.declared.tree.Ident.{Ident as Named};
 ghost use Rattle.hold_vparse.specs.Flat.{targets, seen_port, seen_ports, seen_found};
+ghost use Rattle.hold_vparse.specs.Index.{place_of};
 ghost use Rattle.hold_vparse.specs.Lines.{PortLine, line_of, as_declared, ports_in, header_names, header_lines};
+ghost use Rattle.hold_vparse.specs.Nets.{names};
 
 use crate::index::Index;
 use crate::lines::{Port, header_lines_in, header_names_in};
@@ -58,12 +60,26 @@ impl<'a> Ports<'a> {
         self.lines.as_slice()
     }
 
+    /// The place of the first line of this name.
+    pub(crate) fn place(&self, name: &Name) -> Option<u32>
+        ensures { result ≡ place_of name.now (names (map (λ (l : PortLine). l.name) self.now)) }
+    {
+        self.index.place(name)
+    }
+
+    /// The line in a place.
+    pub(crate) fn get(&self, place: u32) -> Option<&Port<'a>>
+        ensures { seen_found result ≡ slice_get self.now place }
+    {
+        self.lines.get(place as usize)
+    }
+
     /// The first line of this name.
     pub(crate) fn find(&self, name: &Name) -> Option<&Port<'a>>
         ensures { seen_found result ≡ line_of name.now self.now }
     {
-        match self.index.place(name) {
-            Some(place) => self.lines.get(place as usize),
+        match self.place(name) {
+            Some(place) => self.get(place),
             None => None,
         }
     }

@@ -3,15 +3,19 @@ ghost use Rattle.hold_vparse.specs.DoubleNames.{mentions as mentions_of};
 ghost use Rattle.hold_vparse.specs.Flat.{targets, seen_ports, seen_wires, seen_mentions, seen_instances};
 ghost use Rattle.hold_vparse.specs.Lines.{header_names, header_lines, body_lines as body_lines_of, ports_of, wire_lines as wire_lines_of, assignments as assignments_of, instances as instances_of};
 ghost use Rattle.hold_vparse.specs.Nets.{names, declared_names, nets as nets_of};
+ghost use Rattle.hold_vparse.specs.Ranges.{ranges_of};
 
 use crate::index::Index;
 use crate::lines::{NamedWire, Port, assignments_in, instances_in, wire_lines_in};
 use crate::mentions::{Mention, mentions_in};
+use crate::net_ranges::all_ranges;
 use crate::nets::Nets;
 use crate::parts::{
-    Parts, all_body_lines, all_declared, all_listed, all_nets, all_port_lines, all_ports,
+    Parts, all_body_lines, all_declared, all_headed, all_listed, all_nets, all_port_lines,
+    all_ports,
 };
 use crate::ports::Ports;
+use crate::ranges::Ranges;
 use crate::tree::{Assignment, Ident, Instance, Module};
 use hold_base::Memory;
 use std::alloc::Global;
@@ -46,8 +50,10 @@ struct NetTables<'a> {
     lines: LineTables<'a>,
     declared: Index<'a>,
     nets: Nets<'a>,
+    ranges: Ranges<'a>,
     ghost all_declared: { names declared ≡ declared_names lines.ports.tree.now },
     ghost all_nets: { nets ≡ nets_of lines.ports.tree.now },
+    ghost all_ranges: { ranges ≡ ranges_of lines.ports.tree.now },
 }
 
 /// All lists and tables of a module. They are owned in one value, which its `Parts` borrow from.
@@ -96,18 +102,32 @@ fn net_tables<'a>(alloc: Global, lines: LineTables<'a>) -> Result<NetTables<'a>,
 {
     let tree = lines.ports.tree;
     let declared = all_declared(alloc, tree, &lines.ports.port_lines, &lines.wire_lines)?;
+    let ports = &lines.ports.ports;
+    let wires = &lines.wire_lines;
+    let header = all_headed(alloc, tree)?;
     let nets = all_nets(
         alloc,
         tree,
-        &lines.ports.ports,
-        &lines.wire_lines,
+        &header,
+        ports,
+        wires,
         &declared,
         &lines.mentions,
+    )?;
+    let ranges = all_ranges(
+        alloc,
+        tree,
+        &lines.ports.port_lines,
+        ports,
+        wires,
+        &header,
+        nets.wires().len(),
     )?;
     Ok(NetTables {
         lines,
         declared,
         nets,
+        ranges,
     })
 }
 
@@ -152,6 +172,7 @@ pub(crate) fn parts_in<'a>(tables: &'a Tables<'_>) -> Parts<'a>
         mentions: &lines.mentions,
         declared: &nets.declared,
         nets: &nets.nets,
+        ranges: &nets.ranges,
         assignments: &tables.assignments,
         instances: &tables.instances,
     }

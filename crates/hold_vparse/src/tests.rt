@@ -4,6 +4,7 @@ mod answer;
 mod bits;
 mod double_names;
 mod limits;
+mod long_bounds;
 mod nets;
 mod numbers;
 mod parts;

@@ -11,6 +11,6 @@ use Rattle.hold_vparse.proofs.bit_faults.misfit_in_assignments.Goals as goal
 pub loop-assignment-preserved : goal.loop-assignment-preserved
 loop-assignment-preserved c =
     let here = drop_here c.args.assignments.now c.loop-assignment.assignment-index c.assignment-item.result c.loop-assignment-test.true c.assignment-item.is in
-    soonest-step (found_ident c.loop-assignment.found) (found_ident c.soonest_of-found.result) _ (misfit_assignment c.args.nets.now c.assignment-item.result.now) _
+    soonest-step (found_ident c.loop-assignment.found) (found_ident c.soonest_of-found.result) _ (misfit_assignment c.args.nets.now.nets.now c.assignment-item.result.now) _
     (c.soonest_of-found.ensures ∙ ap (merged (found_ident c.loop-assignment.found)) c.misfit_of_assignment.ensures)
-    (ap (λ l. merged (found_ident c.loop-assignment.found) (soonest (flat_map (misfit_assignment c.args.nets.now) (targets l)))) (sym here) ∙ c.loop-assignment.invariant)
+    (ap (λ l. merged (found_ident c.loop-assignment.found) (soonest (flat_map (misfit_assignment c.args.nets.now.nets.now) (targets l)))) (sym here) ∙ c.loop-assignment.invariant)

@@ -7,4 +7,4 @@ use Rattle.hold_vparse.specs.Soonest.{soonest}
 use Rattle.hold_vparse.proofs.bit_faults.misfit_in_assignments.Given as goal
 
 abbrev pub invariant-loop-assignment : goal.invariant-loop-assignment
-invariant-loop-assignment l = merged (found_ident l.found) (soonest (flat_map (misfit_assignment l.nets) (targets (drop l.assignment-index l.assignments)))) ≡ soonest (flat_map (misfit_assignment l.nets) (targets l.assignments))
+invariant-loop-assignment l = merged (found_ident l.found) (soonest (flat_map (misfit_assignment l.nets.nets.now) (targets (drop l.assignment-index l.assignments)))) ≡ soonest (flat_map (misfit_assignment l.nets.nets.now) (targets l.assignments))

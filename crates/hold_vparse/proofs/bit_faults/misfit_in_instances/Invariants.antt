@@ -7,4 +7,4 @@ use Rattle.hold_vparse.specs.Soonest.{soonest}
 use Rattle.hold_vparse.proofs.bit_faults.misfit_in_instances.Given as goal
 
 abbrev pub invariant-loop-named : goal.invariant-loop-named
-invariant-loop-named l = merged (found_ident l.found) (soonest (flat_map (misfit_named l.nets) (seen_instances (drop l.named-index l.instances)))) ≡ soonest (flat_map (misfit_named l.nets) (seen_instances l.instances))
+invariant-loop-named l = merged (found_ident l.found) (soonest (flat_map (misfit_named l.nets.nets.now) (seen_instances (drop l.named-index l.instances)))) ≡ soonest (flat_map (misfit_named l.nets.nets.now) (seen_instances l.instances))

@@ -8,5 +8,5 @@ use Rattle.hold_vparse.proofs.bit_faults.misfit_of_assignment.Goals as goal
 pub returns : goal.returns
 returns c =
     c.soonest_of.ensures ∙ ap (λ o. merged o (found_ident c.misfit_of_right.result)) c.misfit_of_left.ensures
-    ∙ ap (merged (soonest (misfit_left c.args.nets.now c.args.assignment.now))) c.misfit_of_right.ensures
-    ∙ sym (soonest-append (misfit_left c.args.nets.now c.args.assignment.now) (misfit_right c.args.nets.now c.args.assignment.now.right))
+    ∙ ap (merged (soonest (misfit_left c.args.nets.now.nets.now c.args.assignment.now))) c.misfit_of_right.ensures
+    ∙ sym (soonest-append (misfit_left c.args.nets.now.nets.now c.args.assignment.now) (misfit_right c.args.nets.now.nets.now c.args.assignment.now.right))

@@ -7,4 +7,4 @@ use Rattle.hold_vparse.specs.Soonest.{soonest}
 use Rattle.hold_vparse.proofs.bit_faults.misfit_of_instance.Given as goal
 
 abbrev pub invariant-loop-connection : goal.invariant-loop-connection
-invariant-loop-connection l = merged (found_ident l.found) (soonest (flat_map (λ (c : Connection). misfit_tied l.nets c.tied) (drop l.connection-index l.connections))) ≡ soonest (flat_map (λ (c : Connection). misfit_tied l.nets c.tied) l.connections)
+invariant-loop-connection l = merged (found_ident l.found) (soonest (flat_map (λ (c : Connection). misfit_tied l.nets.nets.now c.tied) (drop l.connection-index l.connections))) ≡ soonest (flat_map (λ (c : Connection). misfit_tied l.nets.nets.now c.tied) l.connections)

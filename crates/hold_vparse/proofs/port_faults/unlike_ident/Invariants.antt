@@ -7,6 +7,6 @@ use Rattle.hold_vparse.specs.PortFaults.{unlike_line}
 use Rattle.hold_vparse.specs.Soonest.{soonest}
 use Rattle.hold_vparse.proofs.port_faults.unlike_ident.Given as goal
 
-abbrev pub invariant-loop-wire : goal.invariant-loop-wire
-invariant-loop-wire l = merged (found_ident l.found) (soonest (flat_map (λ (w : WireLine). unlike_line w (line_of w.name.name l.lines)) (seen_wires (drop l.wire-index l.wires))))
+abbrev pub invariant-loop-number : goal.invariant-loop-number
+invariant-loop-number l = merged (found_ident l.found) (soonest (flat_map (λ (w : WireLine). unlike_line w (line_of w.name.name l.lines)) (seen_wires (drop l.number l.wires))))
     ≡ soonest (flat_map (λ (w : WireLine). unlike_line w (line_of w.name.name l.lines)) (seen_wires l.wires))
