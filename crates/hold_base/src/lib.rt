@@ -7,6 +7,8 @@ mod name;
 mod number;
 mod plan;
 mod stop;
+#[cfg(test)]
+mod tests;
 mod text;
 mod time;
 

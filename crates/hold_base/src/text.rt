@@ -17,7 +17,6 @@ pub fn put_number(out: &mut Vec<u8>, n: i64) -> Result<(), Memory>
 #[cfg(test)]
 mod tests {
     use super::*;
-    use crate::name::Name;
     use std::test::Fail;
 
     #[test]
@@ -27,13 +26,6 @@ mod tests {
         put_number(&mut out, 0)?;
         put_number(&mut out, 42)?;
         assert_eq!(rt; out.as_slice(), b"-9223372036854775808042".as_slice());
-        Ok(())
-    }
-
-    #[test]
-    fn names_keep_their_bytes(rt: HostRuntime) -> Result<(), Fail> {
-        let name = Name::from_bytes(rt.alloc(), b"u[3]")?;
-        assert_eq!(rt; name.bytes(), b"u[3]".as_slice());
         Ok(())
     }
 }

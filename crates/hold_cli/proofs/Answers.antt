@@ -9,11 +9,11 @@ use Rattle.hold_netlist.specs.Design.{Design}
 use Rattle.hold_netlist.specs.CanonicalText.{canonical_text}
 use Rattle.hold_cli.specs.Command.{IsRepair}
 use Rattle.hold_cli.specs.Outcome.{GivesUp}
-use Rattle.hold_cli.specs.Front.{IsJobAt, IsJobRead, IsNetlistRead, IsBuilt, HoldsOneReading, BlamesNetlist, IsTold, RefusesJob, Refuses, IsFront}
+use Rattle.hold_cli.specs.Front.{IsJobAt, IsJobRead, IsNetlistRead, IsBuilt, HoldsOneReading, BlamesNetlist, Blames, IsTold, RefusesJob, Refuses, IsFront}
 use Rattle.hold_cli.specs.RefusalLine.{refusal_line}
-use Rattle.hold_cli.specs.Texts.{Ready, NotAmong, IsDone, SaysNothing}
+use Rattle.hold_cli.specs.Texts.{Ready, NotAmong, IsDone}
 use Rattle.hold_cli.specs.Answer.{only_line, repair_texts, IsVerdict, AreTexts, Comes, IsJudged, IsAnswer, IsRefusal, IsDelivery}
-use Rattle.hold_cli.proofs.TextsLemmas.{IsDone-after, Fails-after, SaysNothing-reads, Fails-keeps}
+use Rattle.hold_cli.proofs.TextsLemmas.{IsDone-after, Fails-after, Fails-keeps}
 use Rattle.hold_cli.proofs.JobApart.{IsJobText-apart}
 use Rattle.hold_cli.proofs.JobFormLemmas.{IsJobText-unique}
 use Rattle.hold_cli.specs.JobForm.{IsJobText}
@@ -56,7 +56,7 @@ module _ (old mid new : Told) (name : List ℕ) (job : Job) (netlist : Design) (
     one = one;
     comes = λ told. (is.0, verdict_comes old name job netlist is.0 is.1 (front told) is.2);
   }
-  delivered Memory same = subst (λ (t : Told). SaysNothing old t) same (SaysNothing-reads old mid reads)
+  delivered Memory same = subst (λ (t : Told). OnlyReads old t) same reads
   delivered (Input fault) never = absurd never
   delivered (ReadFault file) never = absurd never
   delivered Words never = absurd never
@@ -64,26 +64,26 @@ module _ (old mid new : Told) (name : List ℕ) (job : Job) (netlist : Design) (
 pub refused : (old mid new : Told) (name : List ℕ) (fault : Fault) (outcome : Outcome) → OnlyReads old mid
     → (IsTold old name → Refuses old name fault)
     → ((text : List ℕ) → old.content name ≡ Some text → RefusesJob old name fault ⊎ ((job : Job) × IsJobAt old name job × BlamesNetlist old job fault))
-    → HoldsOneReading old name → IsRefusal mid new fault outcome → IsAnswer old new name outcome
-refused old mid new name fault (Input answered) reads refuses first one done = record {
+    → Blames old name fault → HoldsOneReading old name → IsRefusal mid new fault outcome → IsAnswer old new name outcome
+refused old mid new name fault (Input answered) reads refuses first blames one done = record {
   refuses = λ told. subst (λ (f : Fault). Refuses old name f) (sym done.0) (refuses told);
   first = subst (λ (f : Fault). (text : List ℕ) → old.content name ≡ Some text → RefusesJob old name f ⊎ ((job : Job) × IsJobAt old name job × BlamesNetlist old job f)) (sym done.0) first;
+  blames = subst (λ (f : Fault). Blames old name f) (sym done.0) blames;
   one = one;
   done = subst (λ (f : Fault). IsDone old new (only_line (refusal_line f))) (sym done.0) (IsDone-after old mid new (only_line (refusal_line fault)) reads done.1);
 }
-refused old mid new name fault WriteFault reads refuses first one fails = record {
+refused old mid new name fault WriteFault reads refuses first blames one fails = record {
   ready = only_line (refusal_line fault);
   fails = Fails-after old mid new (only_line (refusal_line fault)) reads (inr fails);
-  texts = inl (fault, first, refl);
+  texts = inl (fault, first, blames, refl);
   one = one;
   comes = λ told. (Input fault, (refuses told, refl));
 }
-refused old mid new name fault Memory reads refuses first one same =
-    subst (λ (t : Told). SaysNothing old t) same (SaysNothing-reads old mid reads)
-refused old mid new name fault (Repaired cost) reads refuses first one never = absurd never
-refused old mid new name fault (NeedsPadding path short) reads refuses first one never = absurd never
-refused old mid new name fault (ReadFault file) reads refuses first one never = absurd never
-refused old mid new name fault Words reads refuses first one never = absurd never
+refused old mid new name fault Memory reads refuses first blames one same = subst (λ (t : Told). OnlyReads old t) same reads
+refused old mid new name fault (Repaired cost) reads refuses first blames one never = absurd never
+refused old mid new name fault (NeedsPadding path short) reads refuses first blames one never = absurd never
+refused old mid new name fault (ReadFault file) reads refuses first blames one never = absurd never
+refused old mid new name fault Words reads refuses first blames one never = absurd never
 
 -- words name one job
 pub one_repair : (words : List (List ℕ)) (a b : List ℕ) → IsRepair words a → IsRepair words b → a ≡ b
@@ -127,7 +127,7 @@ verdict_apart job netlist Words ready file certificate output never = absurd nev
 
 texts_apart : (old : Told) (name file : List ℕ) (ready : Ready) → AreTexts old name ready
     → ((job : Job) → IsJobRead old name job → (job.certificate ≢ file) × (job.output ≢ file)) → NotAmong file ready.files
-texts_apart old name file ready (inl refusal) apart = subst (λ (r : Ready). NotAmong file r.files) (sym refusal.2) tt
+texts_apart old name file ready (inl refusal) apart = subst (λ (r : Ready). NotAmong file r.files) (sym refusal.3) tt
 texts_apart old name file ready (inr is) apart =
     let both = apart is.0 is.3 in
     verdict_apart is.0 is.1 is.2 ready file both.0 both.1 is.6
@@ -144,7 +144,7 @@ input_kept : (old new : Told) (name file : List ℕ) (outcome : Outcome) → IsA
 input_kept old new name file (Repaired cost) answer apart = judged_kept old new name file (Repaired cost) answer apart
 input_kept old new name file (NeedsPadding path short) answer apart = judged_kept old new name file (NeedsPadding path short) answer apart
 input_kept old new name file (Input fault) answer apart = answer.done.others file tt
-input_kept old new name file (ReadFault other) answer apart = answer.nothing.contents file
+input_kept old new name file (ReadFault other) answer apart = answer.only.contents file
 input_kept old new name file WriteFault answer apart = Fails-keeps old new answer.ready file (texts_apart old name file answer.ready answer.texts apart) answer.fails
 input_kept old new name file Memory answer apart = answer.contents file
 input_kept old new name file Words answer apart = absurd answer

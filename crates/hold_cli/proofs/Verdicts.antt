@@ -2,8 +2,9 @@
 use Rattle.std.proofs.Common.{◌≡◌, ◌⊎◌, inl, inr, ℕ, List, refl, ap, subst, arith}
 use Rattle.std.specs.Prelude.{ℤ}
 use Rattle.std.proofs.lemmas.Int.{ints}
-use Rattle.hold_files.specs.Told.{Told}
+use Rattle.hold_files.specs.Told.{Told, OnlyReads}
 use Rattle.hold_cli.specs.declared.job_form.Job.{Job}
+use Rattle.hold_cli.specs.declared.outcome.Fault.{Fault}
 use Rattle.hold_cli.specs.declared.outcome.Outcome.{Outcome}
 use Rattle.hold_cli.specs.declared.outcome.Outcome.TheVariants.{Repaired, NeedsPadding, Input, ReadFault, WriteFault, Memory, Words}
 use Rattle.hold_graph.specs.declared.problem.Listed.{Listed}
@@ -17,12 +18,13 @@ use Rattle.hold_vparse.proofs.CanonicalReads.{canonical_reads}
 use Rattle.hold_plain.specs.Problem.{problem_of}
 use Rattle.hold_cli.specs.Command.{IsRepair}
 use Rattle.hold_cli.specs.Outcome.{GivesUp}
-use Rattle.hold_cli.specs.Front.{IsJobRead, IsNetlistRead, IsBuilt, ComesToRead, IsTold, IsFront}
+use Rattle.hold_cli.specs.Front.{IsJobRead, IsNetlistRead, IsBuilt, Blames, ComesToRead, IsTold, IsFront}
 use Rattle.hold_cli.specs.PaddingLine.{padding_line}
-use Rattle.hold_cli.specs.Texts.{Ready, IsDone, Fails}
-use Rattle.hold_cli.specs.Answer.{only_line, repair_texts, AreTexts, IsJudged, IsUnread, IsUnwritten, IsAnswer}
+use Rattle.hold_cli.specs.Texts.{Ready, IsDone, Fails, SaysNothing}
+use Rattle.hold_cli.specs.Answer.{only_line, repair_texts, AreTexts, IsJudged, IsRefused, IsUnread, IsUnwritten, IsAnswer}
 use Rattle.hold_cli.proofs.FrontLemmas.{front_told, refused_or_front, one_front}
 use Rattle.hold_cli.proofs.Answers.{one_repair}
+use Rattle.hold_cli.proofs.TextsLemmas.{SaysNothing-reads}
 
 -- a path that misses its check shows that not all are met
 pub misses_or_met : (problem : Problem) (buffers : Buffers) (path : Listed) (short : ℤ) → Misses problem buffers path short → IsMet problem buffers → ⊥
@@ -115,3 +117,22 @@ module _ (old new : Told) (words : List (List ℕ)) (named : List ℕ) (outcome 
   read_named name file other is =
       let a : IsUnread old new name file = answer_is name other (ReadFault file) is in
       a.named
+
+  pub refused_named : (name : List ℕ) (fault : Fault) → IsRepair words name → outcome ≡ Input fault → Blames old name fault
+  refused_named name fault other is =
+      let a : IsRefused old new name fault = answer_is name other (Input fault) is in
+      a.blames
+
+  pub only_read : (file : List ℕ) → outcome ≡ ReadFault file → OnlyReads old new
+  only_read file is =
+      let a : IsUnread old new named file = answer_is named repair (ReadFault file) is in
+      a.only
+
+  pub unread : (file : List ℕ) → outcome ≡ ReadFault file → SaysNothing old new
+  unread file is = SaysNothing-reads old new (only_read file is)
+
+  pub unwritten : outcome ≡ Memory → OnlyReads old new
+  unwritten is = answer_is named repair Memory is
+
+  pub unchanged : outcome ≡ Memory → SaysNothing old new
+  unchanged is = SaysNothing-reads old new (unwritten is)

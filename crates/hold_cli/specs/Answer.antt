@@ -14,20 +14,20 @@
 -- IsAnswer old new name outcome: the outcome is right for the repair of the job in the file `name`, begun over the old moment and ended at the new one.
 --   IsJudged: it is the verdict on the job and the netlist that were read, each of its texts was written, and where the files were told, they hold that
 --   job and netlist. IsRefused: the line was said, and where the files were told, that fault is the first refusal. IsUnread: the count of failed reads of
---   that file rose, nothing changed, and the work comes to that file. IsUnwritten: another outcome had its texts ready, and one of them failed. After want
---   of memory nothing has changed, and that the words are no command is never right. But for a failed read and want of memory: where job and netlist are told and within the limit, the netlist's text has
---   one reading.
+--   that file rose, there were only reads, and the work comes to that file. IsUnwritten: another outcome had its texts ready, and one of them failed. At want
+--   of memory there were only reads, and that the words are no command is never right. But for a failed read and want of memory: where job and netlist are
+--   told and within the limit, the netlist's text has one reading.
 -- IsRefusal, IsDelivery: what is right once a fault, or a job and its netlist, have been read: the outcome of that, or what may come in its place.
 use Rattle.std.specs.Prelude.{◌≡◌, ◌⊎◌, ℕ, List, [], ◌∷◌, Some, codes}
-use Rattle.hold_files.specs.Told.{Told, Rose}
+use Rattle.hold_files.specs.Told.{Told, Rose, OnlyReads}
 use Rattle.hold_cli.specs.declared.job_form.Job.{Job}
 use Rattle.hold_cli.specs.declared.outcome.Fault.{Fault}
 use Rattle.hold_cli.specs.declared.outcome.Outcome.{Outcome}
 use Rattle.hold_cli.specs.declared.outcome.Outcome.TheVariants.{Repaired, NeedsPadding, Input, ReadFault, WriteFault, Memory, Words}
-use Rattle.hold_cli.specs.Front.{IsJobAt, IsJobRead, IsNetlistRead, IsBuilt, HoldsOneReading, BlamesNetlist, ComesTo, ComesToRead, IsTold, RefusesJob, Refuses, IsFront}
+use Rattle.hold_cli.specs.Front.{IsJobAt, IsJobRead, IsNetlistRead, IsBuilt, HoldsOneReading, BlamesNetlist, Blames, ComesTo, ComesToRead, IsTold, RefusesJob, Refuses, IsFront}
 use Rattle.hold_cli.specs.PaddingLine.{padding_line}
 use Rattle.hold_cli.specs.RefusalLine.{refusal_line}
-use Rattle.hold_cli.specs.Texts.{Ready, IsDone, Fails, FailsInLine, SaysNothing}
+use Rattle.hold_cli.specs.Texts.{Ready, IsDone, Fails, FailsInLine}
 use Rattle.hold_netlist.specs.Design.{Design}
 use Rattle.hold_netlist.specs.CanonicalText.{canonical_text}
 use Rattle.hold_graph.specs.Sums.{no_buffers}
@@ -69,7 +69,7 @@ IsBlamed told name fault =
 -- the texts of a refusal, or of a verdict on the job that was read
 abbrev pub AreTexts : Told → List ℕ → Ready → Type 0
 AreTexts told name ready =
-    ((fault : Fault) × IsBlamed told name fault × (ready ≡ only_line (refusal_line fault)))
+    ((fault : Fault) × IsBlamed told name fault × Blames told name fault × (ready ≡ only_line (refusal_line fault)))
     ⊎ ((job : Job) × (netlist : Design) × (verdict : Outcome) × IsJobRead told name job × IsNetlistRead told job netlist × IsBuilt job netlist
     × IsVerdict job netlist verdict ready)
 
@@ -88,6 +88,7 @@ pub record IsJudged (old new : Told) (name : List ℕ) (outcome : Outcome) : Typ
 pub record IsRefused (old new : Told) (name : List ℕ) (fault : Fault) : Type 0 where
   pub refuses : IsTold old name → Refuses old name fault
   pub first : IsBlamed old name fault
+  pub blames : Blames old name fault
   pub one : HoldsOneReading old name
   pub done : IsDone old new (only_line (refusal_line fault))
 
@@ -95,7 +96,7 @@ pub record IsUnread (old new : Told) (name file : List ℕ) : Type 0 where
   pub cause : Rose (old.read_faults file) (new.read_faults file)
   pub named : ComesToRead old name file
   pub comes : (text : List ℕ) → old.content name ≡ Some text → ComesTo old name file
-  pub nothing : SaysNothing old new
+  pub only : OnlyReads old new
 
 -- a verdict on what the files hold
 abbrev pub ComesToVerdict : Told → List ℕ → Outcome → Ready → Type 0
@@ -131,7 +132,7 @@ IsAnswer old new name (NeedsPadding path short) = IsJudged old new name (NeedsPa
 IsAnswer old new name (Input fault) = IsRefused old new name fault
 IsAnswer old new name (ReadFault file) = IsUnread old new name file
 IsAnswer old new name WriteFault = IsUnwritten old new name
-IsAnswer old new name Memory = SaysNothing old new
+IsAnswer old new name Memory = OnlyReads old new
 IsAnswer old new name Words = ⊥
 
 -- what is right of a refusal that is ready: the fault is answered, its line failed, or there was no memory for the line

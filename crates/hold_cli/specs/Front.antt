@@ -14,6 +14,8 @@
 -- IsNetlistRead told job netlist, IsFaultRead told job fault: some bytes read as this netlist, or have this first fault, and where the content of
 --   the job's netlist file is told, these bytes are it.
 -- BlamesNetlist told job fault: the refusal is one of the job's netlist: it names that file, or it is the first fault of the bytes that were read of it.
+-- BlamesJob name fault: the refusal is one of the job itself, and names the job's file, which is `name`.
+-- Blames told name fault: the refusal is one of the job in the file `name`, or of the netlist of the job whose bytes were read of that file.
 -- HasNoJob told name: the file is told and within the limit, and it is no job of the form.
 -- IsUnbuiltText job text: the text reads as a netlist that isn't served for the job. HasNoNetlist told job: the job's netlist is told and within the
 --   limit, and is such a text.
@@ -91,6 +93,14 @@ abbrev pub BlamesNetlist : Told → Job → Fault → Type 0
 BlamesNetlist told job (TooLong file) = file ≡ job.netlist
 BlamesNetlist told job (Verilog fault) = IsFaultRead told job fault
 BlamesNetlist told job (NotBuilt file) = file ≡ job.netlist
+
+abbrev pub BlamesJob : List ℕ → Fault → Type 0
+BlamesJob name (TooLong file) = file ≡ name
+BlamesJob name (Verilog fault) = ⊥
+BlamesJob name (NotBuilt file) = file ≡ name
+
+abbrev pub Blames : Told → List ℕ → Fault → Type 0
+Blames told name fault = BlamesJob name fault ⊎ ((job : Job) × IsJobRead told name job × BlamesNetlist told job fault)
 
 pub record HasNoJob (told : Told) (name : List ℕ) : Type 0 where
   pub text : List ℕ

@@ -7,7 +7,7 @@ ghost use Rattle.hold_graph.specs.Graph.{EndsOnce};
 ghost use Rattle.hold_graph.specs.Problem.{IsValid};
 ghost use Rattle.hold_plain.specs.Limits.{KeepsLimits};
 ghost use Rattle.hold_plain.specs.Problem.{problem_of};
-ghost use Rattle.hold_cli.specs.Front.{IsBuilt, HasOneReading, HasText, IsJobAt, IsNetlistAt, HoldsOneReading, IsJobRead, IsNetlistRead, BlamesNetlist, ComesTo, ComesToRead, IsTold, RefusesText, RefusesJob, RefusesNetlist, Refuses, IsFront};
+ghost use Rattle.hold_cli.specs.Front.{IsBuilt, HasOneReading, HasText, IsJobAt, IsNetlistAt, HoldsOneReading, IsJobRead, IsNetlistRead, BlamesNetlist, BlamesJob, Blames, ComesTo, ComesToRead, IsTold, RefusesText, RefusesJob, RefusesNetlist, Refuses, IsFront};
 ghost use Rattle.hold_vparse.specs.Reads.{Reads};
 
 use crate::input::{Stopped, read_input};
@@ -54,6 +54,8 @@ pub fn read_front<F: Files>(alloc: Global, files: &mut F, name: &Name) -> Result
         → RefusesJob (F.told files.old) name.now fault
         ⊎ ((job : JobData) × IsJobAt (F.told files.old) name.now job
         × BlamesNetlist (F.told files.old) job fault) }
+    ensures blamed { (fault : Refusal) → IsErrOf result (Stopped.Refused fault)
+        → Blames (F.told files.old) name.now fault }
     ensures one { OnOk result (HoldsOneReading (F.told files.old) name.now) }
     ensures one_refused { (fault : Refusal) → IsErrOf result (Stopped.Refused fault)
         → HoldsOneReading (F.told files.old) name.now }
@@ -82,6 +84,7 @@ fn read_job<F: Files>(alloc: Global, files: &mut F, name: &Name) -> Result<Job, 
     ensures refused { (fault : Refusal) → IsErrOf result (Stopped.Refused fault) → (text : List ℕ)
         → (F.told files.old).content name.now ≡ Some text
         → RefusesJob (F.told files.old) name.now fault }
+    ensures blamed { (fault : Refusal) → IsErrOf result (Stopped.Refused fault) → BlamesJob name.now fault }
     ensures read { (file : List ℕ) → IsErrOf result (Stopped.Read file) → file ≡ name.now }
     ensures cause { (file : List ℕ) → IsErrOf result (Stopped.Read file)
         → Rose ((F.told files.old).read_faults name.now) ((F.told files.new).read_faults name.now) }

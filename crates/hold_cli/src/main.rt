@@ -16,7 +16,7 @@ mod top;
 
 use hold_base::{Memory, Name};
 use hold_files::HostFiles;
-use outcome::{Outcome, status};
+use outcome::{Outcome, complaint, status};
 use std::alloc::{Alloc, Global};
 use std::env;
 use std::io::{self, Eprint};
@@ -55,12 +55,9 @@ fn program_words(rt: &(impl Env + Alloc), alloc: Global) -> Result<Vec<Name>, Me
 
 /// Tells standard error of an outcome that says no line.
 fn complain(rt: &impl Eprint, outcome: &Outcome) {
-    let _ = match outcome {
-        Outcome::ReadFault(_) => rt.eprintln("read fault"),
-        Outcome::WriteFault => rt.eprintln("write fault"),
-        Outcome::Memory => rt.eprintln("want of memory"),
-        _ => Ok(()),
-    };
+    if let Some(complaint) = complaint(outcome) {
+        let _ = rt.eprintln(complaint);
+    }
 }
 
 #[cfg(test)]

@@ -1,5 +1,5 @@
-ghost use Rattle.std.specs.Prelude.{◌≡◌};
-ghost use Rattle.hold_cli.specs.Outcome.{status_of};
+ghost use Rattle.std.specs.Prelude.{◌≡◌, option_copied};
+ghost use Rattle.hold_cli.specs.Outcome.{status_of, complaint_of};
 
 use hold_base::Name;
 use hold_graph::Listed;
@@ -51,5 +51,20 @@ pub fn status(outcome: &Outcome) -> u8
         Outcome::Memory => 6,
         Outcome::Words => 7,
         Outcome::NeedsPadding { path: _, short: _ } => 9,
+    }
+}
+
+/// What standard error is told of an outcome that says no line. Takes no memory.
+pub fn complaint(outcome: &Outcome) -> Option<&'static str>
+    ensures { option_copied result ≡ complaint_of outcome.now }
+{
+    match outcome {
+        Outcome::ReadFault(_) => Some("read fault"),
+        Outcome::WriteFault => Some("write fault"),
+        Outcome::Memory => Some("want of memory"),
+        Outcome::Repaired { cost: _ }
+        | Outcome::NeedsPadding { path: _, short: _ }
+        | Outcome::Input(_)
+        | Outcome::Words => None,
     }
 }

@@ -1,10 +1,10 @@
 ghost use Rattle.std.specs.Prelude.{◌≡◌, ◌≢◌, ◌⊎◌, ℕ, ℤ, List, Some};
-ghost use Rattle.hold_files.specs.Told.{Rose, Keeps, GoesOn};
+ghost use Rattle.hold_files.specs.Told.{Rose, Keeps, GoesOn, OnlyReads};
 ghost use Rattle.hold_cli.specs.declared.outcome.Outcome.{Outcome as Answer};
 ghost use Rattle.hold_cli.specs.declared.outcome.Fault.{Fault as Refusal};
 ghost use Rattle.hold_cli.specs.Outcome.{GivesUp};
 ghost use Rattle.hold_cli.specs.Command.{IsRepair};
-ghost use Rattle.hold_cli.specs.Front.{IsJobAt, IsJobRead, IsNetlistRead, IsBuilt, BlamesNetlist, ComesTo, ComesToRead, IsTold, RefusesJob, Refuses, IsFront};
+ghost use Rattle.hold_cli.specs.Front.{IsJobAt, IsJobRead, IsNetlistRead, IsBuilt, BlamesNetlist, Blames, ComesTo, ComesToRead, IsTold, RefusesJob, Refuses, IsFront};
 ghost use Rattle.hold_netlist.specs.Design.{Design};
 ghost use Rattle.hold_netlist.specs.CanonicalText.{canonical_text};
 ghost use Rattle.hold_cli.specs.declared.job_form.Job.{Job as JobData};
@@ -53,6 +53,8 @@ pub fn run<F: Files>(alloc: Global, words: &[Name], files: &mut F) -> Outcome
         → (F.told files.old).content name ≡ Some text
         → result ≡ Outcome.Input fault → RefusesJob (F.told files.old) name fault
         ⊎ ((job : JobData) × IsJobAt (F.told files.old) name job × BlamesNetlist (F.told files.old) job fault) }
+    ensures refused_named { (name : List ℕ) (fault : Refusal) → IsRepair words.now name
+        → result ≡ Outcome.Input fault → Blames (F.told files.old) name fault }
     ensures only_refused { (name : List ℕ) (fault : Refusal) → IsRepair words.now name
         → Refuses (F.told files.old) name fault
         → (result ≡ Outcome.Input fault) ⊎ GivesUp result }
@@ -119,6 +121,8 @@ pub fn run<F: Files>(alloc: Global, words: &[Name], files: &mut F) -> Outcome
         → (name : List ℕ) × IsRepair words.now name }
     ensures unread { (file : List ℕ) → result ≡ Outcome.ReadFault file
         → SaysNothing (F.told files.old) (F.told files.new) }
+    ensures only_read { (file : List ℕ) → result ≡ Outcome.ReadFault file
+        → OnlyReads (F.told files.old) (F.told files.new) }
 
     // A file or a line that can't be written: another answer was ready.
     ensures write_fault { (name : List ℕ) → IsRepair words.now name → IsTold (F.told files.old) name
@@ -143,6 +147,8 @@ pub fn run<F: Files>(alloc: Global, words: &[Name], files: &mut F) -> Outcome
     ensures memory { result ≡ Outcome.Memory → (name : List ℕ) × IsRepair words.now name }
     ensures unchanged { result ≡ Outcome.Memory
         → SaysNothing (F.told files.old) (F.told files.new) }
+    ensures unwritten { result ≡ Outcome.Memory
+        → OnlyReads (F.told files.old) (F.told files.new) }
 {
     match repair_job(words) {
         Some(name) => repair(alloc, name, files),

@@ -40,6 +40,11 @@ stays_told : (a b : Option Entry) (old new : Entry) → Turns a b old new
 stays_told a b old new (inl same) some = rw same some
 stays_told a b old new (inr (had, has)) some = rw has (search rules)
 
+-- what both entries count alike is counted as before, for every name
+pub count-replaced : (f : Entry → ℕ) (m n : Entries) (others : ℕ) (name : List ℕ) (old new : Entry) → IsReplaced m n name old new → f new ≡ f old
+    → (q : List ℕ) → unwrap_or (option_map f (entry_of n q)) others ≡ unwrap_or (option_map f (entry_of m q)) others
+count-replaced f m n others name old new replaced same q = ap (λ o. unwrap_or o others) (kept f (entry_of m q) (entry_of n q) old new (replaced.turns q) same)
+
 -- an entry with one read fault more
 pub OnlyReads-replaced : (m n : Entries) (said : List ℕ) (r k s : ℕ) (name : List ℕ) (old new : Entry)
     → IsReplaced m n name old new → new.buffer.text ≡ old.buffer.text → new.write_faults ≡ old.write_faults
@@ -54,7 +59,7 @@ OnlyReads-replaced m n said r k s name old new replaced text writes reads = reco
   };
   contents = λ q before is. kept (λ e. e.buffer.text) (entry_of m q) (entry_of n q) old new (replaced.turns q) text ∙ is;
   said = λ before is. is;
-  writes = λ q. ap (λ o. unwrap_or o k) (kept (λ e. e.write_faults) (entry_of m q) (entry_of n q) old new (replaced.turns q) writes);
+  writes = count-replaced (λ e. e.write_faults) m n k name old new replaced writes;
   says = refl;
 }
 
@@ -72,7 +77,7 @@ OnlyWrites-replaced m n said r k s name old new replaced reads writes = record {
   };
   elsewhere = λ q other before is. ap (option_map (λ (e : Entry). e.buffer.text)) (replaced.others q other) ∙ is;
   said = λ before is. is;
-  reads = λ q. ap (λ o. unwrap_or o r) (kept (λ e. e.read_faults) (entry_of m q) (entry_of n q) old new (replaced.turns q) reads);
+  reads = count-replaced (λ e. e.read_faults) m n r name old new replaced reads;
   says = refl;
 }
 

@@ -1,5 +1,5 @@
 ghost use Rattle.std.specs.Prelude.{◌≡◌, ◌↔◌, ℕ, List, [], ◌++◌, ◌<◌, ◌≤◌, length, take, drop, Contains, IsTrue, IsSome, IsErr, IfOk, OnOk, OnErr};
-ghost use Rattle.hold_files.specs.Told.{Told, Rose, Keeps, KeepsOrEmpties, KeepsSaid, OnlyReads, OnlyWrites, OnlySays};
+ghost use Rattle.hold_files.specs.Told.{Told, Rose, Keeps, KeepsOrEmpties, KeepsSaid, SameReadFaults, SameWriteFaults, OnlyReads, OnlyWrites, OnlySays};
 
 mod buffer;
 mod entries;
@@ -31,7 +31,8 @@ struct Calls {
     says: u64,
 }
 
-/// Files in memory, which fail where they are told to. Their room is reserved from the start.
+/// Files in memory, which fail where they are told to, and count no other fault. Their room is reserved from the
+/// start.
 #[derive(Drop)]
 pub struct MemoryFiles {
     entries: BTreeMap<Name, Entry>,
@@ -107,6 +108,7 @@ impl Files for MemoryFiles {
         ensures stays { OnlyReads (told_of self.old) (told_of self.new) }
 
         ensures cause { IsErr result ↔ ReadFails self.old name.now }
+        ensures counted { OnOk result (SameReadFaults (told_of self.old) (told_of self.new)) }
         ensures all { IfOk result (λ n. (text : List ℕ) → (told_of self.old).content name.now ≡ Some text
             → n ≡ bytes_at at into.old text) }
         ensures next { IsNext self.old self.new (record self.old.calls { reads = risen self.old.calls.reads }) }
@@ -127,6 +129,7 @@ impl Files for MemoryFiles {
         ensures stays { OnlyWrites (told_of self.old) (told_of self.new) name.now }
 
         ensures cause { IsErr result ↔ StartFails self.old name.now }
+        ensures counted { OnOk result (SameWriteFaults (told_of self.old) (told_of self.new)) }
         ensures next { IsNext self.old self.new (record self.old.calls { starts = risen self.old.calls.starts }) }
     {
         let is_refused = is_listed(&self.fails.starts, self.calls.starts);
@@ -148,6 +151,7 @@ impl Files for MemoryFiles {
         ensures stays { OnlyWrites (told_of self.old) (told_of self.new) name.now }
 
         ensures cause { IsErr result ↔ PutFails self.old name.now piece.now }
+        ensures counted { OnOk result (SameWriteFaults (told_of self.old) (told_of self.new)) }
         ensures fits { IfOk result (λ n. n ≡ put_growth self.old name.now piece.now) }
         ensures next { IsNext self.old self.new (record self.old.calls { puts = risen self.old.calls.puts }) }
     {
@@ -170,6 +174,7 @@ impl Files for MemoryFiles {
         ensures stays { OnlySays (told_of self.old) (told_of self.new) }
 
         ensures cause { IsErr result ↔ SayFails self.old piece.now }
+        ensures counted { OnOk result ((told_of self.new).say_faults ≡ (told_of self.old).say_faults) }
         ensures fits { IfOk result (λ n. n ≡ say_growth self.old piece.now) }
         ensures next { IsNext self.old self.new (record self.old.calls { says = risen self.old.calls.says }) }
     {

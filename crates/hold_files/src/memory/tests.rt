@@ -66,3 +66,17 @@ fn fails_where_it_is_told_to(rt: HostRuntime) {
     assert!(rt; say_whole(&mut files, b"x").is_err());
     assert!(rt; say_whole(&mut files, b"x").is_ok());
 }
+
+#[test]
+fn a_copy_of_what_fails_is_equal(rt: HostRuntime) -> Result<(), Memory> {
+    let alloc = rt.alloc();
+    let fails = Fails {
+        reads: numbers(alloc, &[1, 3])?,
+        starts: numbers(alloc, &[])?,
+        puts: numbers(alloc, &[0])?,
+        says: numbers(alloc, &[2])?,
+    };
+    let copy = fails.clone()?;
+    assert!(rt; copy == fails);
+    Ok(())
+}

@@ -60,3 +60,13 @@ pub returns-in-Err-clause-named : goal.returns-in-Err-clause-named
 returns-in-Err-clause-named g c = λ file is.
     let same : c.in-Err.stopped ≡ Read file = cc in
     inr (c.in_ok-job.job, c.in_ok-job.ensures.job, c.in-Err.ensures.read file (ap Err same))
+
+pub returns-in-Err-clause-blamed : goal.returns-in-Err-clause-blamed
+returns-in-Err-clause-blamed g c = λ fault is.
+    let same : c.in-Err.stopped ≡ Refused fault = cc in
+    inr (
+      c.in_ok-job.job,
+      c.in_ok-job.ensures.job,
+      netlist_blamed (g.F.Files.told c.args.files.now) (g.F.Files.told c.read_job.new.files) c.in_ok-job.job fault c.read_job.ensures.stays
+          (c.in-Err.ensures.blamed fault (ap Err same)),
+    )

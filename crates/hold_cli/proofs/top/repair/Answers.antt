@@ -16,4 +16,5 @@ pub returns-in-Err-Refused-clause-answer : goal.returns-in-Err-Refused-clause-an
 returns-in-Err-Refused-clause-answer g c =
     refused (g.F.Files.told c.args.files.now) (g.F.Files.told c.read_front.new.files) (g.F.Files.told c.refuse.new.files) c.args.name.now
     c.in-Err-Refused.fault c.refuse.result c.read_front.ensures.stays (c.in-Err-Refused.ensures.refused c.in-Err-Refused.fault (ap Err c.in-Err-Refused.field-0-is)) (λ text is. c.in-Err-Refused.ensures.first c.in-Err-Refused.fault text (ap Err c.in-Err-Refused.field-0-is) is)
+    (c.in-Err-Refused.ensures.blamed c.in-Err-Refused.fault (ap Err c.in-Err-Refused.field-0-is))
     (c.in-Err-Refused.ensures.one_refused c.in-Err-Refused.fault (ap Err c.in-Err-Refused.field-0-is)) c.refuse.ensures.answer

@@ -1,5 +1,5 @@
 use Rattle.hold_cli.proofs.Answers.{only_refused, job_stays, netlist_stays}
-use Rattle.hold_cli.proofs.Verdicts.{repaired, repaired_texts, only_repaired, needs_padding, padding_said, only_needs_padding, write_texts, read_named}
+use Rattle.hold_cli.proofs.Verdicts.{repaired, repaired_texts, only_repaired, needs_padding, padding_said, only_needs_padding, write_texts, read_named, refused_named, only_read, unread, unwritten, unchanged}
 use Rattle.hold_cli.proofs.Complete.{complete}
 use Rattle.hold_cli.proofs.top.run.Goals as goal
 
@@ -61,4 +61,29 @@ returns-in-Some-clause-write_texts g c =
 pub returns-in-Some-clause-read_named : goal.returns-in-Some-clause-read_named
 returns-in-Some-clause-read_named g c =
     read_named (g.F.Files.told c.args.files.now) (g.F.Files.told c.repair.new.files) c.args.words.now c.in-Some.name.now c.repair.result
+    c.in-Some.ensures.found c.repair.ensures.answer
+
+pub returns-in-Some-clause-refused_named : goal.returns-in-Some-clause-refused_named
+returns-in-Some-clause-refused_named g c =
+    refused_named (g.F.Files.told c.args.files.now) (g.F.Files.told c.repair.new.files) c.args.words.now c.in-Some.name.now c.repair.result
+    c.in-Some.ensures.found c.repair.ensures.answer
+
+pub returns-in-Some-clause-only_read : goal.returns-in-Some-clause-only_read
+returns-in-Some-clause-only_read g c =
+    only_read (g.F.Files.told c.args.files.now) (g.F.Files.told c.repair.new.files) c.args.words.now c.in-Some.name.now c.repair.result
+    c.in-Some.ensures.found c.repair.ensures.answer
+
+pub returns-in-Some-clause-unread : goal.returns-in-Some-clause-unread
+returns-in-Some-clause-unread g c =
+    unread (g.F.Files.told c.args.files.now) (g.F.Files.told c.repair.new.files) c.args.words.now c.in-Some.name.now c.repair.result
+    c.in-Some.ensures.found c.repair.ensures.answer
+
+pub returns-in-Some-clause-unwritten : goal.returns-in-Some-clause-unwritten
+returns-in-Some-clause-unwritten g c =
+    unwritten (g.F.Files.told c.args.files.now) (g.F.Files.told c.repair.new.files) c.args.words.now c.in-Some.name.now c.repair.result
+    c.in-Some.ensures.found c.repair.ensures.answer
+
+pub returns-in-Some-clause-unchanged : goal.returns-in-Some-clause-unchanged
+returns-in-Some-clause-unchanged g c =
+    unchanged (g.F.Files.told c.args.files.now) (g.F.Files.told c.repair.new.files) c.args.words.now c.in-Some.name.now c.repair.result
     c.in-Some.ensures.found c.repair.ensures.answer

@@ -1,6 +1,8 @@
 use Rattle.std.proofs.Common.{◌≡◌, sym, ap, refl, rules}
+use Rattle.std.proofs.lemmas.Result.{IfOk-weaker}
+use Rattle.hold_files.specs.declared.memory.entry.Entry.{Entry}
 use Rattle.hold_files.specs.Shelf.{risen}
-use Rattle.hold_files.proofs.EntryLemmas.{IsReplaced-lent, OnlyWrites-replaced, IsNext-replaced}
+use Rattle.hold_files.proofs.EntryLemmas.{IsReplaced-lent, count-replaced, OnlyWrites-replaced, IsNext-replaced}
 use Rattle.hold_files.proofs.memory.MemoryFilesFiles.put.Goals as goal
 
 pub returns-clause-stays : goal.returns-clause-stays
@@ -16,3 +18,10 @@ returns-clause-next c =
     let counted : c.saturating_add-self.result ≡ risen c.args.self.now.calls.puts = search rules in
     IsNext-replaced _ _ _ _ _ _ replaced c.put.ensures.output c.put.ensures.room
     (ap (λ n. record c.args.self.now.calls { puts = n }) counted) refl refl
+
+pub returns-clause-counted : goal.returns-clause-counted
+returns-clause-counted c =
+    let replaced = IsReplaced-lent c.args.self.now.entries (c.get_mut.follows.lender c.put.new.self) c.args.name.now c.in-Some.entry.now c.put.new.self
+    (sym c.in-Some.ensures.value) (c.get_mut.follows.holds c.put.new.self) in
+    IfOk-weaker c.put.result _ _
+    (λ n same. count-replaced (λ (e : Entry). e.write_faults) _ _ c.args.self.now.other_write_faults _ _ _ replaced (ap (λ (e : Entry). e.write_faults) same)) c.put.ensures.ok
