@@ -4,23 +4,26 @@ use crate::stop::Memory;
 use std::alloc::Global;
 use std::cmp::Ordering;
 use std::marker::Model;
+use std::rc::RcSlice;
 
 /// The bytes of a name: of a file, a net, an instance, a pin or a cell. Any bytes are a name; which ones
-/// a format allows is said by that format.
+/// a format allows is said by that format. A clone shares the bytes, so it takes the same time for a name of any
+/// length.
 #[derive(Clone, Debug, Drop)]
 pub struct Name {
-    text: Vec<u8>,
+    text: RcSlice<u8>,
 }
 
 impl Model for Name {
     ghost use Rattle.std.specs.Prelude.{List, ℕ};
     ghost use Rattle.std.specs.Coded.{coded_list, coded_ℕ};
+    ghost use Rattle.std.specs.Rc.{rc_slice_items};
 
     ghost Value = { List ℕ };
 
     ghost coded = { coded_list coded_ℕ };
 
-    ghost view = { λ n. n.text.items };
+    ghost view = { λ n. rc_slice_items n.text };
 }
 
 impl Name {
@@ -29,7 +32,7 @@ impl Name {
         ensures { IfOk result (λ name. name ≡ bytes.now) }
     {
         Ok(Name {
-            text: Vec::from_slice(alloc, bytes)?,
+            text: RcSlice::from_slice(alloc, bytes)?,
         })
     }
 

@@ -6,7 +6,7 @@ ghost use Rattle.hold_vparse.specs.Flat.{seen_instances};
 
 use crate::layout::Layout;
 use crate::tree::{Connection, Ident, Instance, Tied};
-use hold_base::{List, Memory, Name, NetNo};
+use hold_base::{List, Memory, NetNo};
 use hold_netlist::{Inst, Pin, Source};
 use std::alloc::Global;
 
@@ -31,12 +31,12 @@ fn source_of(layout: &Layout<'_>, tied: &Tied) -> Source
 }
 
 /// A connection of a netlist.
-fn pin_of(alloc: Global, layout: &Layout<'_>, connection: &Connection) -> Result<Pin, Memory>
+fn pin_of(layout: &Layout<'_>, connection: &Connection) -> Result<Pin, Memory>
     requires { misfit_tied layout.now.wires.now connection.now.tied ≡ [] }
     ensures { IfOk result (λ made. made ≡ pin layout.now.wires.now connection.now) }
 {
     let source = source_of(layout, &connection.tied);
-    let name = Name::from_bytes(alloc, connection.pin.name.bytes())?;
+    let name = connection.pin.name.clone()?;
     Ok(Pin { name, source })
 }
 
@@ -51,12 +51,12 @@ fn pins_of(
 {
     let mut list = Vec::new(alloc);
     for connection in connections {
-        list.push(pin_of(alloc, layout, connection)?)?;
+        list.push(pin_of(layout, connection)?)?;
     }
     Ok(list)
 }
 
-/// An instance of a netlist.
+/// An instance of a netlist. It shares the bytes of its type's name with the others of its statement.
 fn inst_of(
     alloc: Global,
     layout: &Layout<'_>,
@@ -66,8 +66,8 @@ fn inst_of(
     requires { misfit_instance layout.now.wires.now instance.now ≡ [] }
     ensures { IfOk result (λ made. made ≡ inst layout.now.wires.now (kind.now, instance.now)) }
 {
-    let name = Name::from_bytes(alloc, instance.name.name.bytes())?;
-    let kind = Name::from_bytes(alloc, kind.name.bytes())?;
+    let name = instance.name.name.clone()?;
+    let kind = kind.name.clone()?;
     let pins = pins_of(alloc, layout, instance.connections.as_slice())?;
     Ok(Inst {
         name,

@@ -63,7 +63,7 @@ fn netlist_with(
     ensures limits { OnOk result (first_passed_limit (design_with parts.now.tree.now assigns.items) ≡ None) }
     ensures refused { Faults result (IsLimit (design_with parts.now.tree.now assigns.items)) }
 {
-    let name = Name::from_bytes(alloc, parts.tree.name.name.bytes())?;
+    let name = parts.tree.name.name.clone()?;
     let ports = port_list(alloc, parts.ports)?;
     netlist_in_limits(alloc, name, ports, wires, insts, assigns)
 }

@@ -7,7 +7,7 @@ ghost use Rattle.hold_vparse.specs.NameFaults.{is_large_range, has_large_bound};
 use crate::lines::{NamedWire, Port};
 use crate::number::Number;
 use crate::tree::Range;
-use hold_base::{Memory, Name};
+use hold_base::Memory;
 use hold_netlist::{Port as NetPort, Wire};
 use std::alloc::Global;
 
@@ -60,13 +60,13 @@ fn bounds_in(range: Option<&Range>) -> Option<(u32, u32)>
     }
 }
 
-/// A wire of its own, with a copy of the name.
-fn wire_of(alloc: Global, wire: &NamedWire<'_>) -> Result<Wire, Memory>
+/// A wire of its own, which shares the bytes of the name.
+fn wire_of(wire: &NamedWire<'_>) -> Result<Wire, Memory>
     requires { is_large_range (seen_range wire.now.range) ≡ false }
     ensures { IfOk result (λ made. made ≡ net_wire wire.now) }
 {
     let range = bounds_in(wire.range);
-    let name = Name::from_bytes(alloc, wire.name.name.bytes())?;
+    let name = wire.name.name.clone()?;
     Ok(Wire { name, range })
 }
 
@@ -77,7 +77,7 @@ pub(crate) fn wire_list(alloc: Global, wires: &[NamedWire<'_>]) -> Result<Vec<Wi
 {
     let mut list = Vec::new(alloc);
     for wire in wires {
-        list.push(wire_of(alloc, wire)?)?;
+        list.push(wire_of(wire)?)?;
     }
     Ok(list)
 }
@@ -88,7 +88,7 @@ pub(crate) fn port_list(alloc: Global, ports: &[Port<'_>]) -> Result<Vec<NetPort
 {
     let mut list = Vec::new(alloc);
     for port in ports {
-        let name = Name::from_bytes(alloc, port.name.name.bytes())?;
+        let name = port.name.name.clone()?;
         list.push(NetPort {
             name,
             direction: port.direction,
