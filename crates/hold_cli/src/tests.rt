@@ -18,9 +18,6 @@ const JOB: &[u8] =
 
 const NETLIST: &[u8] = b"module m();\nendmodule\n";
 
-/// A netlist whose canonical text, which this is, is longer than the certificate.
-const PORTS: &[u8] = b"module m(a, b);\n  input a;\n  input b;\nendmodule\n";
-
 const CERTIFICATE: &[u8] = b"hold-certificate 1\nrepaired 0\nleaf 1\nend\n";
 
 /// What a run answered and left.
@@ -266,21 +263,6 @@ fn a_failed_output_or_line_leaves_the_certificate(rt: HostRuntime) -> Result<(),
         CERTIFICATE,
         NETLIST,
     )
-}
-
-#[test]
-fn an_output_past_the_room_is_cut_short(rt: HostRuntime) -> Result<(), Fail> {
-    let alloc = rt.alloc();
-    let fails = fails_at(alloc, &[], &[], &[], &[])?;
-    let ran = run_over(alloc, b"e.toml", JOB, PORTS, 44, fails)?;
-    assert_eq!(rt; status(&ran.outcome), 5);
-    assert_eq!(rt; ran.certificate.as_slice(), CERTIFICATE);
-    assert_eq!(rt;
-        ran.output.as_slice(),
-        b"module m(a, b);\n  input a;\n  input b;\nendmod".as_slice()
-    );
-    assert_eq!(rt; ran.said.as_slice(), b"".as_slice());
-    Ok(())
 }
 
 /// A run of which the read of this number fails, in a file of this name.

@@ -51,14 +51,3 @@ fn words_that_are_no_command_are_answered_by_the_usage(rt: HostRuntime) -> Resul
     }
     Ok(())
 }
-
-#[test]
-fn a_line_past_the_room_is_cut_short(rt: HostRuntime) -> Result<(), Fail> {
-    let alloc = rt.alloc();
-    let names = names_of(alloc, &[])?;
-    let fails = fails_at(alloc, &[], &[], &[], &[])?;
-    let ran = run_with(alloc, names.as_slice(), JOB, NETLIST, 10, fails)?;
-    assert_eq!(rt; ran.outcome, Outcome::WriteFault);
-    assert_eq!(rt; ran.said.as_slice(), b"usage: hol".as_slice());
-    Ok(())
-}
