@@ -7,6 +7,7 @@ mod doubles;
 mod fault;
 mod first_pins;
 mod inst;
+mod keyword;
 mod kind;
 mod limits;
 mod name_table;
@@ -18,6 +19,7 @@ mod wire;
 
 pub use fault::NetFault;
 pub use inst::{Assign, Inst, Pin, Source};
+pub use keyword::is_keyword;
 pub use kind::Kind;
 pub use name_table::NameTable;
 pub use netlist::Netlist;

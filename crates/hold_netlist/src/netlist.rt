@@ -128,21 +128,6 @@ impl Netlist {
             && same_assigns(&self.assigns, &other.assigns)
     }
 
-    /// The parts that the netlist was made of.
-    pub fn into_parts(self) -> (Name, Vec<Port>, Vec<Wire>, Vec<Inst>, Vec<Assign>)
-        ensures { design result.0 result.1.items result.2.items result.3.items result.4.items ≡ self }
-    {
-        let Netlist {
-            name,
-            ports,
-            wires,
-            insts,
-            assigns,
-            first_pins: _,
-        } = self;
-        (name, ports, wires, insts, assigns)
-    }
-
     /// Does nothing. A proof learns from the call that the netlist is valid.
     pub fn know_valid(&self)
         ensures { IsValid self.now }

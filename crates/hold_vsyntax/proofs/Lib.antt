@@ -1,5 +1,4 @@
 pub mod AllLemmas
-pub mod RowLemmas
 pub mod NumberLemmas
 pub mod TokenLemmas
 pub mod ReadingLemmas

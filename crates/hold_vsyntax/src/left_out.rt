@@ -2,8 +2,8 @@ ghost use Rattle.std.specs.Prelude.{◌≡◌};
 ghost use Rattle.hold_vlex.specs.Lexed.{lexeme};
 ghost use Rattle.hold_vsyntax.specs.Symbols.{is_left_out, is_left_out_sign, is_in_profile};
 
-use crate::keyword::is_keyword;
 use crate::mark::Mark;
+use hold_netlist::is_keyword;
 use hold_vlex::{Sort, Token};
 
 /// Whether the token is a word, a directive or a sign that the profile leaves out. The word `module` is.

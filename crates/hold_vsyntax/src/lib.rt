@@ -9,7 +9,6 @@ mod header;
 mod idents;
 mod instances;
 mod item;
-mod keyword;
 mod left_out;
 mod mark;
 pub mod number;

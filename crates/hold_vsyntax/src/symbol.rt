@@ -3,9 +3,9 @@ ghost use Rattle.hold_vlex.specs.Lexed.{lexeme};
 ghost use Rattle.hold_vsyntax.specs.Symbols.{symbol, word_symbol, marked};
 ghost use Rattle.hold_vsyntax.specs.Shown.{shown};
 
-use crate::keyword::is_keyword;
 use crate::mark::Mark;
 use crate::number::Digits;
+use hold_netlist::is_keyword;
 use hold_vlex::{Sort, Token};
 
 /// What the grammar sees of a token.

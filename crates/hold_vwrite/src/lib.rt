@@ -4,7 +4,6 @@
 mod bits;
 mod canonical;
 mod insts;
-mod keyword;
 mod lines;
 mod module;
 mod name;

@@ -4,8 +4,8 @@ ghost use Rattle.hold_netlist.specs.CanonicalText.{spelled};
 ghost use Rattle.hold_netlist.specs.Identifier;
 ghost use Rattle.hold_netlist.specs.Identifier.{is_word_byte};
 
-use crate::keyword::is_keyword;
 use hold_base::{Memory, Name};
+use hold_netlist::is_keyword;
 
 fn is_letter(byte: u8) -> bool
     ensures { result ≡ Identifier.is_letter byte }

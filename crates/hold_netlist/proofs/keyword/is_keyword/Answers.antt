@@ -1,7 +1,7 @@
 use Rattle.std.proofs.Common.{ap, is_some, ◌∙◌}
 use Rattle.hold_netlist.specs.Keywords.{keywords}
-use Rattle.hold_vsyntax.proofs.RowLemmas.{is_some-first_row}
-use Rattle.hold_vsyntax.proofs.keyword.is_keyword.Goals as goal
+use Rattle.hold_netlist.proofs.RowLemmas.{is_some-first_row}
+use Rattle.hold_netlist.proofs.keyword.is_keyword.Goals as goal
 
 pub returns : goal.returns
 unfolding keywords

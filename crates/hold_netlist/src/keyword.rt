@@ -134,8 +134,8 @@ const KEYWORDS: WordTable<124> = WordTable {
     ],
 };
 
-/// Whether a word is a keyword, which is no simple identifier.
-pub(crate) fn is_keyword(word: &[u8]) -> bool
+/// Whether a word is a keyword, which is no simple identifier. Takes no memory.
+pub fn is_keyword(word: &[u8]) -> bool
     ensures { result ≡ is_among word.now keywords }
 {
     KEYWORDS.find(word).is_some()
