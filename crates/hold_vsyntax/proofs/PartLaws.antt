@@ -69,9 +69,6 @@ part_complete : (p : Part) (rest : List Symbol) → begins LeftBracket rest ≡ 
 unfolding part_at
 part_complete p rest h = rw (selected_complete p.selected rest h) refl
 
-pub part_laws : Spells part_symbols part_at
-part_laws = record { sound = part_sound; complete = part_complete }
-
 right_sound : (ss : List Symbol) (r : Right) (rest : List Symbol) → right_at ss ≡ Some (r, rest) → ss ≡ right_symbols r ++ rest
 unfolding right_at
 right_sound ss r rest h = by (constant_at ss) refl h

@@ -29,10 +29,6 @@ bounds_sound ss r rest h =
     let whole : ss ≡ Counted left.0.0 ∷ Marked Colon ∷ colon.0 = cc in
     ap (λ l. Marked LeftBracket ∷ l) whole ∙ right_bound_sound left.0.0 colon.0 r rest colon.2
 
-pub bounds_complete : (r : Range) (rest : List Symbol) → bounds_after (Counted r.left ∷ Marked Colon ∷ Counted r.right ∷ Marked RightBracket ∷ rest) ≡ Some (r, rest)
-unfolding bounds_after
-bounds_complete r rest = refl
-
 pub range_sound : (ss : List Symbol) (o : Option Range) (rest : List Symbol) → range_at ss ≡ Some (o, rest) → ss ≡ range_symbols o ++ rest
 unfolding range_at
 range_sound ss o rest h = by (cond_ok (begins LeftBracket ss) _ _ (Some (o, rest)) h)

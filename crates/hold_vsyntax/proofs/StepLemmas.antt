@@ -13,7 +13,7 @@ use Rattle.hold_vsyntax.specs.Passing.{first_piece, rest_behind}
 use Rattle.hold_vsyntax.specs.Grammar.{item_symbols, item_piece, end_piece}
 use Rattle.hold_vsyntax.specs.Reading.{begins, item_at}
 use Rattle.hold_vsyntax.specs.Tokens.{IsPopped, in_sight}
-use Rattle.hold_vsyntax.specs.Body.{blamed, IsStatement, Follows, Stops, HasRead, IsBody}
+use Rattle.hold_vsyntax.specs.Body.{blamed, IsStatement, Follows, Stops, HasRead}
 use Rattle.hold_vsyntax.proofs.ReadingLemmas.{begins_is}
 use Rattle.hold_vsyntax.proofs.PieceLaws.{cut_piece, whole_piece, length-rest_behind, item_first}
 use Rattle.hold_vsyntax.proofs.ItemLaws.{item_sound, item_complete}
@@ -84,9 +84,6 @@ end_bad ts (x ∷ xs) t end fault is popped some named =
     subst (λ ps. Stops ps end fault) (sym p.1) (inr (p.2, follows))
 
 -- the statements read so far
-pub none_read : (ps : List (List Lexeme)) → HasRead ps [] ps
-none_read ps = record { done = []; cut = refl; written = refl }
-
 pub one_read : (ps qs rs : List (List Lexeme)) (items more : List Item) (i : Item) → HasRead ps items qs → IsStatement i qs rs → more ≡ items ++ i ∷ []
     → HasRead ps more rs
 one_read ps qs rs items more i read is same = record {
@@ -94,9 +91,4 @@ one_read ps qs rs items more i read is same = record {
   cut = read.cut ∙ ap (λ l. read.done ++ l) is.cut ∙ sym (append_assoc read.done (is.piece ∷ []) rs);
   written = map-append symbols read.done (is.piece ∷ []) ∙ ap (λ l. l ++ symbols is.piece ∷ []) read.written ∙ ap (λ s. map item_piece items ++ s ∷ []) is.written
       ∙ sym (map-append item_piece items (i ∷ [])) ∙ ap (map item_piece) (sym same);
-}
-
-pub all_read : (ps qs : List (List Lexeme)) (items : List Item) → HasRead ps items qs → map symbols qs ≡ end_piece ∷ [] → IsBody ps items
-all_read ps qs items read is = record {
-  written = ap (map symbols) read.cut ∙ map-append symbols read.done qs ∙ ap (λ l. l ++ map symbols qs) read.written ∙ ap (λ l. map item_piece items ++ l) is;
 }

@@ -30,11 +30,7 @@ fn ended(alloc: Global, reader: &mut Reader<'_>) -> Result<Option<Item>, Stop<Sy
 }
 
 /// Reads the next statement; none at the end of the module. `end` is the place where the text ends.
-fn step(
-    alloc: Global,
-    reader: &mut Reader<'_>,
-    end: u64,
-) -> Result<Option<Item>, Stop<SyntaxFault>>
+fn step(alloc: Global, reader: &mut Reader<'_>, end: u64) -> Result<Option<Item>, Stop<SyntaxFault>>
     ensures { IsStep reader.old result reader.new end }
 {
     if sees(reader, Mark::EndModule) {

@@ -1,3 +1,5 @@
+//! The syntax tree of a text.
+
 use crate::number::Number;
 use hold_base::{List, Name};
 use hold_netlist::Direction;

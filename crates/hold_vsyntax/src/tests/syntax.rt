@@ -17,14 +17,8 @@ enum Answer {
 }
 
 static ROWS: [(&'static [u8], Answer); 59] = [
-    (
-        b"module m; endmodule",
-        Answer::Tree,
-    ),
-    (
-        b"module m(); endmodule",
-        Answer::Tree,
-    ),
+    (b"module m; endmodule", Answer::Tree),
+    (b"module m(); endmodule", Answer::Tree),
     (
         b"module m(a, \\b[0] ); input a, \\b[0] ; endmodule",
         Answer::Tree,

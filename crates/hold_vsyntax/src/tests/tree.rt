@@ -1,8 +1,11 @@
 //! The tree of one text.
 
 use crate::syntax::syntax_tree;
-use crate::tree::{Assignment, Connection, Header, Ident, Item, Module, NextPort, Right, Selected, Tied};
+use crate::tree::{
+    Assignment, Connection, Header, Ident, Item, Module, NextPort, Right, Selected, Tied,
+};
 use hold_netlist::Direction;
+use std::alloc::Global;
 
 static TEXT: &'static [u8] = b"module m(input a, b, output [1:0] y);
   wire w;
@@ -47,7 +50,12 @@ fn has_connections(connections: &[Connection]) -> bool {
 }
 
 fn has_items(items: &[Item]) -> bool {
-    let [Item::Wires(wires), Item::Assignments(assignments), Item::Instances(instances)] = items else {
+    let [
+        Item::Wires(wires),
+        Item::Assignments(assignments),
+        Item::Instances(instances),
+    ] = items
+    else {
         return false;
     };
     let [second] = assignments.rest.as_slice() else {
@@ -64,7 +72,15 @@ fn is_tree(tree: &Module) -> bool {
     is_ident(&tree.name, b"m", 7) && has_header(&tree.header) && has_items(tree.items.as_slice())
 }
 
+/// Whether the text has that tree.
+fn has_tree(alloc: Global, text: &[u8]) -> bool {
+    match syntax_tree(alloc, text) {
+        Ok(tree) => is_tree(&tree),
+        Err(_) => false,
+    }
+}
+
 #[test]
 fn pieces_stand_in_the_tree(rt: HostRuntime) {
-    assert!(rt; matches!(syntax_tree(rt.alloc(), TEXT), Ok(tree) if is_tree(&tree)));
+    assert!(rt; has_tree(rt.alloc(), TEXT));
 }
