@@ -27,18 +27,10 @@ behind : (table longer xs more : List (ℕ × ℕ)) → longer ≡ table ++ xs �
 behind table longer xs more e = ap (λ (t : List (ℕ × ℕ)). t ++ more) e ∙ append_assoc table xs more
 
 -- what has a range keeps it
-pub Holds-grown : (table longer : List (ℕ × ℕ)) (place : Option ℕ) (r : Option (ℕ × ℕ)) → Holds table place r → Grows table longer → Holds longer place r
-Holds-grown table longer place r h g = record {
-  behind = λ more. ap (λ (t : List (ℕ × ℕ)). at_place t place) (behind table longer g.more more g.behind) ∙ h.behind (g.more ++ more);
-}
-
 pub Hold-grown : (table longer : List (ℕ × ℕ)) (places : List (Option ℕ)) (rs : List (Option (ℕ × ℕ))) → Hold table places rs → Grows table longer → Hold longer places rs
 Hold-grown table longer places rs h g = record {
   behind = λ more. ap (λ (t : List (ℕ × ℕ)). map (at_place t) places) (behind table longer g.more more g.behind) ∙ h.behind (g.more ++ more);
 }
-
-pub Grows-none : (table : List (ℕ × ℕ)) → Grows table table
-Grows-none table = record { more = []; behind = search rules }
 
 pub Grows-both : (table longer longest : List (ℕ × ℕ)) → Grows table longer → Grows longer longest → Grows table longest
 Grows-both table longer longest g h = record { more = g.more ++ h.more; behind = h.behind ∙ behind table longer g.more h.more g.behind }
@@ -144,9 +136,6 @@ header_end table list place d xs i whole past so_far = record {
   behind = λ more. sym (append-nil (map (at_place (table ++ more)) list))
       ∙ ap (λ ps. map (at_place (table ++ more)) list ++ port_ranges (next_lines d (at_place (table ++ more) place) ps)) (sym (drop_of_length-le xs past)) ∙ so_far more;
 }
-
-pub Hold-none : (table : List (ℕ × ℕ)) → Hold table [] []
-Hold-none table = record { behind = λ more. refl }
 
 -- the ranges of statements
 pub port_ranges-cons : (i : Item) (is : List Item) → port_ranges (body_lines (i ∷ is)) ≡ port_ranges (lines_of_item i) ++ port_ranges (body_lines is)

@@ -25,9 +25,6 @@ pub keeps_added : (old new : List ℕ) (n : ℕ) → MayAdd old n new → Keeps 
 keeps_added old new n (inl e) = keeps_same old new e
 keeps_added old new n (inr e) = record { each = λ k m h. ap (λ (ns : List ℕ). slice_get ns k) e ∙ slice_get-append old (n ∷ []) k m h }
 
-pub keeps_both : (a b c : List ℕ) → Keeps a b → Keeps b c → Keeps a c
-keeps_both a b c h more = record { each = λ k n at. more.each k n (h.each k n at) }
-
 pub HaveClasses-kept : (old new : List ℕ) (list : List Measured) → Keeps old new → HaveClasses old list → HaveClasses new list
 HaveClasses-kept old new list kept h = record {
   each = λ k m at. record {

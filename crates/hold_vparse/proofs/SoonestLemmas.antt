@@ -39,9 +39,6 @@ pub soonest-step : (found more whole : Option Ident) (here rest : List Ident) �
 soonest-step found more whole here rest e so_far =
     ap (λ (o : Option Ident). merged o (soonest rest)) e ∙ merged-assoc found (soonest here) (soonest rest) ∙ ap (merged found) (sym (soonest-append here rest)) ∙ so_far
 
-pub soonest-end : (found whole : Option Ident) → merged found (soonest []) ≡ whole → found ≡ whole
-soonest-end found whole h = sym (merged-none found) ∙ h
-
 -- where none stands first, there is none
 pub soonest_none : (is : List Ident) → soonest is ≡ None → is ≡ []
 soonest_none [] h = refl
