@@ -4,7 +4,8 @@ use Rattle.hold_base.specs.declared.stop.Stop.{Stop}
 use Rattle.hold_base.specs.declared.stop.Stop.TheVariants.{Memory, Fault}
 use Rattle.hold_netlist.specs.Design.{Design}
 use Rattle.hold_vparse.specs.declared.fault.VerilogFault.{VerilogFault}
-use Rattle.hold_vparse.specs.Reads.{Reads, IsFirstFault, Answers, AnswersFault}
+use Rattle.hold_vsyntax.specs.Answers.{Answers, AnswersFault}
+use Rattle.hold_vparse.specs.Reads.{Reads, IsFirstFault}
 use Rattle.hold_cli.specs.Front.{HasOneReading}
 
 pub one_netlist : (text : List ℕ) (netlist : Design) (result : Result Design (Stop VerilogFault)) → result ≡ Ok netlist

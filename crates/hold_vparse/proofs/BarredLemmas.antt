@@ -9,9 +9,9 @@ use Rattle.std.proofs.lemmas.List.Folds.{list_any-append}
 use Rattle.std.proofs.lemmas.Slice.Eq.{bytes_eq-Decides}
 use Rattle.indexmap.specs.IndexMap.{insert_entry}
 use Rattle.hold_netlist.specs.Names.{is_among}
+use Rattle.hold_vsyntax.specs.declared.tree.Module.{Module}
 use Rattle.hold_vparse.specs.declared.barred.Barred.{Barred}
 use Rattle.hold_vparse.specs.declared.barred_names.BarredNames.{BarredNames}
-use Rattle.hold_vparse.specs.declared.tree.Module.{Module}
 use Rattle.hold_vparse.specs.Barred.{is_barred, found_or_none, barred_in, Bars}
 use Rattle.hold_vparse.specs.DoubleNames.{Mention, Role, clash, declares_again}
 use Rattle.hold_vparse.specs.Lines.{header_names}

@@ -9,8 +9,8 @@ use Rattle.hold_netlist.specs.Design.{Design}
 use Rattle.hold_netlist.specs.Names.{port_names, wire_names}
 use Rattle.hold_netlist.specs.Doubles.{first_repeat, first_double_in_insts}
 use Rattle.hold_netlist.specs.Valid.{IsValid}
+use Rattle.hold_vsyntax.specs.Symbols.{ident}
 use Rattle.hold_vparse.specs.Lines.{body_lines, wire_lines, assignments, instances}
-use Rattle.hold_vparse.specs.Symbols.{ident}
 use Rattle.hold_vparse.specs.Declares.{design_of}
 use Rattle.hold_vparse.specs.NameFaults.{first_name_fault}
 use Rattle.hold_vparse.proofs.CanonicalTree.{names_at, port_items, wire_items, assign_items, inst_items, tree_of}

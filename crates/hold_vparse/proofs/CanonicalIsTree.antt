@@ -3,7 +3,7 @@ use Rattle.hold_netlist.specs.Design.{Design}
 use Rattle.hold_netlist.specs.Valid.{IsValid}
 use Rattle.hold_netlist.specs.CanonicalText.{canonical_text}
 use Rattle.hold_vlex.specs.Lexed.{lexed}
-use Rattle.hold_vparse.specs.Reads.{IsTree}
+use Rattle.hold_vsyntax.specs.SyntaxTree.{IsTree}
 use Rattle.hold_vparse.proofs.CanonicalTree.{tree_of}
 use Rattle.hold_vparse.proofs.SpelledText.{canonical-tokens}
 use Rattle.hold_vparse.proofs.ModulePieces.{module_pieces}

@@ -24,23 +24,23 @@ use Rattle.hold_netlist.specs.Design.{Design}
 use Rattle.hold_netlist.specs.Bits.{width_of}
 use Rattle.hold_netlist.specs.Names.{port_names}
 use Rattle.hold_netlist.specs.CanonicalText.{spelled, range_text, direction_text, bit_text, port_line, port_lines, wire_line, assign_line, connection_text, inst_line, module_line}
-use Rattle.hold_vparse.specs.declared.tree.Ident.{Ident}
-use Rattle.hold_vparse.specs.declared.tree.Several.{Several}
-use Rattle.hold_vparse.specs.declared.tree.Range.{Range}
-use Rattle.hold_vparse.specs.declared.tree.Header.{Header}
-use Rattle.hold_vparse.specs.declared.tree.Header.TheVariants.{Plain}
-use Rattle.hold_vparse.specs.declared.tree.Selected.{Selected}
-use Rattle.hold_vparse.specs.declared.tree.Selected.TheVariants.{Whole, Bit, Part as Bits}
-use Rattle.hold_vparse.specs.declared.tree.Part.{Part}
-use Rattle.hold_vparse.specs.declared.tree.Right.{Right}
-use Rattle.hold_vparse.specs.declared.tree.Right.TheVariants.{Net as Side, Constant as ConstantSide}
-use Rattle.hold_vparse.specs.declared.tree.Tied.{Tied}
-use Rattle.hold_vparse.specs.declared.tree.Tied.TheVariants.{Open, Net, Bit as BitOf, Constant}
-use Rattle.hold_vparse.specs.declared.tree.Connection.{Connection}
-use Rattle.hold_vparse.specs.declared.tree.Item.{Item}
-use Rattle.hold_vparse.specs.declared.tree.Item.TheVariants.{Ports, Wires, Assignments, Instances as InstancesOf}
-use Rattle.hold_vparse.specs.declared.tree.Module.{Module}
-use Rattle.hold_vparse.specs.Symbols.{ident}
+use Rattle.hold_vsyntax.specs.declared.tree.Ident.{Ident}
+use Rattle.hold_vsyntax.specs.declared.tree.Several.{Several}
+use Rattle.hold_vsyntax.specs.declared.tree.Range.{Range}
+use Rattle.hold_vsyntax.specs.declared.tree.Header.{Header}
+use Rattle.hold_vsyntax.specs.declared.tree.Header.TheVariants.{Plain}
+use Rattle.hold_vsyntax.specs.declared.tree.Selected.{Selected}
+use Rattle.hold_vsyntax.specs.declared.tree.Selected.TheVariants.{Whole, Bit, Part as Bits}
+use Rattle.hold_vsyntax.specs.declared.tree.Part.{Part}
+use Rattle.hold_vsyntax.specs.declared.tree.Right.{Right}
+use Rattle.hold_vsyntax.specs.declared.tree.Right.TheVariants.{Net as Side, Constant as ConstantSide}
+use Rattle.hold_vsyntax.specs.declared.tree.Tied.{Tied}
+use Rattle.hold_vsyntax.specs.declared.tree.Tied.TheVariants.{Open, Net, Bit as BitOf, Constant}
+use Rattle.hold_vsyntax.specs.declared.tree.Connection.{Connection}
+use Rattle.hold_vsyntax.specs.declared.tree.Item.{Item}
+use Rattle.hold_vsyntax.specs.declared.tree.Item.TheVariants.{Ports, Wires, Assignments, Instances as InstancesOf}
+use Rattle.hold_vsyntax.specs.declared.tree.Module.{Module}
+use Rattle.hold_vsyntax.specs.Symbols.{ident}
 
 abbrev pub one : {X : Type 0} → X → Several X
 one x = record { first = x; rest = [] }

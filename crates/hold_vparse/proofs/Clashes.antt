@@ -9,7 +9,7 @@ use Rattle.std.proofs.lemmas.Bool.{false_from_ne_true, and_from, or_parts, or_fr
 use Rattle.std.proofs.lemmas.List.Folds.{list_any-append}
 use Rattle.std.proofs.lemmas.Slice.Eq.{bytes_eq-Decides}
 use Rattle.hold_netlist.specs.Names.{is_among}
-use Rattle.hold_vparse.specs.declared.tree.Module.{Module}
+use Rattle.hold_vsyntax.specs.declared.tree.Module.{Module}
 use Rattle.hold_vparse.specs.Lines.{header_names}
 use Rattle.hold_vparse.specs.Nets.{names, declared_names}
 use Rattle.hold_vparse.specs.DoubleNames.{Mention, clash, declares_again, doubles}

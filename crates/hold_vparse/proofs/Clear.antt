@@ -11,13 +11,13 @@ use Rattle.std.proofs.lemmas.List.{append-nil}
 use Rattle.std.proofs.lemmas.List.Folds.{list_any-append}
 use Rattle.hold_netlist.specs.Names.{is_among}
 use Rattle.hold_netlist.specs.Doubles.{first_repeat}
-use Rattle.hold_vparse.specs.declared.tree.Ident.{Ident}
-use Rattle.hold_vparse.specs.declared.tree.Module.{Module}
+use Rattle.hold_vsyntax.specs.declared.tree.Ident.{Ident}
+use Rattle.hold_vsyntax.specs.declared.tree.Module.{Module}
+use Rattle.hold_vsyntax.proofs.AllLemmas.{all-append}
 use Rattle.hold_vparse.specs.Lines.{header_names}
 use Rattle.hold_vparse.specs.Nets.{names, declared_names}
 use Rattle.hold_vparse.specs.DoubleNames.{Role, ListsPort, DeclaresPort, GivesDirection, DeclaresWire, DeclaresInstance, UsesNet, Mention, mention, clash, declares_again, doubles}
 use Rattle.hold_vparse.proofs.NameLists.{bytes_eq_self, bytes_eq-swap, among_apart, is_among_left, is_among_right, if_none}
-use Rattle.hold_vparse.proofs.Pairs.{all-append}
 use Rattle.hold_vparse.proofs.PortLines.{all_weaken}
 
 abbrev pub IsClear : Module → List Mention → Mention → Type 0

@@ -11,14 +11,15 @@ use Rattle.hold_netlist.specs.Names.{wire_names}
 use Rattle.hold_netlist.specs.Doubles.{first_repeat, first_double_in_insts, first_double_name}
 use Rattle.hold_netlist.specs.declared.wire.Direction.{Direction}
 use Rattle.hold_netlist.specs.declared.wire.Port.{Port}
-use Rattle.hold_vparse.specs.declared.tree.Ident.{Ident}
-use Rattle.hold_vparse.specs.declared.tree.Assignment.{Assignment}
-use Rattle.hold_vparse.specs.declared.tree.Instance.{Instance}
+use Rattle.hold_vsyntax.specs.declared.tree.Ident.{Ident}
+use Rattle.hold_vsyntax.specs.declared.tree.Assignment.{Assignment}
+use Rattle.hold_vsyntax.specs.declared.tree.Instance.{Instance}
+use Rattle.hold_vsyntax.proofs.AllLemmas.{all-append}
 use Rattle.hold_vparse.specs.Lines.{line_of, as_declared, ports_of, assignments, instances}
 use Rattle.hold_vparse.specs.Nets.{names, used_in_instance, uses}
 use Rattle.hold_vparse.specs.Declares.{port, inst, assigned, design_of}
 use Rattle.hold_vparse.proofs.NameLists.{Differ}
-use Rattle.hold_vparse.proofs.Pairs.{Each, map-Each, flat_map-Each, all-Each, all-append}
+use Rattle.hold_vparse.proofs.Pairs.{Each, map-Each, flat_map-Each, all-Each}
 use Rattle.hold_vparse.proofs.BitParts.{IsAssigned, well_assigned}
 use Rattle.hold_vparse.proofs.Placed.{IsAmongWires, IsPlaced, same_inst, placed_among}
 use Rattle.hold_vparse.proofs.Statements.{Statements, module_of, items_of, body_lines_of, assignments_of, instances_of, uses_of}

@@ -6,26 +6,26 @@ use Rattle.hold_netlist.specs.Bits.{width_of_range, bits_of}
 use Rattle.hold_netlist.specs.Names.{IsName, port_names, wire_names, is_among}
 use Rattle.hold_netlist.specs.WellFormed.{IsSource, IsWrittenWire, IsWrittenPin, IsWrittenInst, IsWrittenAssign, IsWellFormed}
 use Rattle.hold_netlist.specs.declared.wire.Wire.{Wire}
-use Rattle.hold_vparse.specs.declared.tree.Ident.{Ident}
-use Rattle.hold_vparse.specs.declared.tree.Header.{Header}
-use Rattle.hold_vparse.specs.declared.tree.Header.TheVariants.{Bare, Plain, Declared}
-use Rattle.hold_vparse.specs.declared.tree.Selected.TheVariants.{Bit}
-use Rattle.hold_vparse.specs.declared.tree.Tied.{Tied}
-use Rattle.hold_vparse.specs.declared.tree.Tied.TheVariants.{Open, Net, Bit as BitOf, Constant}
-use Rattle.hold_vparse.specs.declared.tree.Assignment.{Assignment}
-use Rattle.hold_vparse.specs.declared.tree.Connection.{Connection}
-use Rattle.hold_vparse.specs.declared.tree.Instance.{Instance}
-use Rattle.hold_vparse.specs.declared.tree.Item.{Item}
-use Rattle.hold_vparse.specs.declared.tree.Item.TheVariants.{Ports, Wires, Assignments, Instances}
-use Rattle.hold_vparse.specs.declared.tree.Module.{Module}
+use Rattle.hold_vsyntax.specs.declared.tree.Ident.{Ident}
+use Rattle.hold_vsyntax.specs.declared.tree.Header.{Header}
+use Rattle.hold_vsyntax.specs.declared.tree.Header.TheVariants.{Bare, Plain, Declared}
+use Rattle.hold_vsyntax.specs.declared.tree.Selected.TheVariants.{Bit}
+use Rattle.hold_vsyntax.specs.declared.tree.Tied.{Tied}
+use Rattle.hold_vsyntax.specs.declared.tree.Tied.TheVariants.{Open, Net, Bit as BitOf, Constant}
+use Rattle.hold_vsyntax.specs.declared.tree.Assignment.{Assignment}
+use Rattle.hold_vsyntax.specs.declared.tree.Connection.{Connection}
+use Rattle.hold_vsyntax.specs.declared.tree.Instance.{Instance}
+use Rattle.hold_vsyntax.specs.declared.tree.Item.{Item}
+use Rattle.hold_vsyntax.specs.declared.tree.Item.TheVariants.{Ports, Wires, Assignments, Instances}
+use Rattle.hold_vsyntax.specs.declared.tree.Module.{Module}
+use Rattle.hold_vsyntax.specs.Named.{IsNamedModule}
+use Rattle.hold_vsyntax.proofs.AllLemmas.{all-append}
 use Rattle.hold_vparse.specs.Lines.{all, PortLine, WireLine, header_lines, body_lines, wire_lines, line_of, as_declared, ports_in, ports_of, assignments, instances_of_item, instances}
 use Rattle.hold_vparse.specs.Nets.{names, port_idents, declared_names, used_in_tied, used_in_instance, used_in_item, uses, first_uses, wire, port_wires, other_wires, implicit_wires, nets}
 use Rattle.hold_vparse.specs.PortFaults.{undirected, unlisted, unlike, misdeclared}
 use Rattle.hold_vparse.specs.BitFaults.{reach, is_missing, misfit_assignment, misfit_tied, misfit_named, misfit}
 use Rattle.hold_vparse.specs.Declares.{first_bit, assigned, source, pin, inst, port, design_of}
 use Rattle.hold_vparse.specs.NameFaults.{has_large_bound}
-use Rattle.hold_vparse.specs.Named.{IsNamedModule}
-use Rattle.hold_vparse.proofs.Pairs.{all-append}
 use Rattle.hold_vparse.proofs.NetlistLemmas.{nil_left, nil_right}
 use Rattle.hold_vparse.proofs.LayoutLemmas.{first_bit-reach, small_first, small_rest}
 use Rattle.hold_vparse.proofs.Placed.{IsAmongWires}

@@ -10,7 +10,7 @@ use Rattle.std.proofs.lemmas.List.{append-nil, map-append}
 use Rattle.hold_netlist.specs.Names.{wire_names, is_among}
 use Rattle.hold_netlist.specs.Doubles.{first_repeat}
 use Rattle.hold_netlist.specs.declared.wire.Wire.{Wire}
-use Rattle.hold_vparse.specs.declared.tree.Ident.{Ident}
+use Rattle.hold_vsyntax.specs.declared.tree.Ident.{Ident}
 use Rattle.hold_vparse.specs.Lines.{PortLine, WireLine, wire_lines, line_of, as_declared}
 use Rattle.hold_vparse.specs.Nets.{names, port_idents, declared_names, uses, first_uses, wire, port_wires, other_wires, implicit_wires, nets}
 use Rattle.hold_vparse.proofs.NameLists.{NoneAmong, Differ, unrepeated, unrepeated-append, is_among_right}

@@ -7,10 +7,10 @@ use Rattle.std.proofs.lemmas.Slice.Eq.{bytes_eq-Decides}
 use Rattle.hold_netlist.specs.Names.{wire_names, pin_names, is_among}
 use Rattle.hold_netlist.specs.Doubles.{first_repeat, first_double_in_insts, first_double_name}
 use Rattle.hold_netlist.specs.declared.wire.Wire.{Wire}
-use Rattle.hold_vparse.specs.declared.tree.Ident.{Ident}
-use Rattle.hold_vparse.specs.declared.tree.Connection.{Connection}
-use Rattle.hold_vparse.specs.declared.tree.Instance.{Instance}
-use Rattle.hold_vparse.specs.declared.tree.Module.{Module}
+use Rattle.hold_vsyntax.specs.declared.tree.Ident.{Ident}
+use Rattle.hold_vsyntax.specs.declared.tree.Connection.{Connection}
+use Rattle.hold_vsyntax.specs.declared.tree.Instance.{Instance}
+use Rattle.hold_vsyntax.specs.declared.tree.Module.{Module}
 use Rattle.hold_vparse.specs.Lines.{PortLine, WireLine, body_lines, wire_lines, instances}
 use Rattle.hold_vparse.specs.Nets.{names, port_idents, declared_names, uses, first_uses, nets}
 use Rattle.hold_vparse.specs.DoubleNames.{Role, ListsPort, DeclaresPort, GivesDirection, DeclaresWire, DeclaresInstance, UsesNet, Mention, mentions, doubles, repeated_pins, repeated_in, doubled}

@@ -5,15 +5,15 @@ use Rattle.hold_netlist.specs.Doubles.{first_double_name}
 use Rattle.hold_netlist.specs.WellFormed.{IsWellFormed}
 use Rattle.hold_netlist.specs.declared.wire.Wire.{Wire}
 use Rattle.hold_netlist.specs.declared.inst.Assign.{Assign}
-use Rattle.hold_vparse.specs.declared.tree.Ident.{Ident}
-use Rattle.hold_vparse.specs.declared.tree.Instance.{Instance}
-use Rattle.hold_vparse.specs.declared.tree.Assignment.{Assignment}
-use Rattle.hold_vparse.specs.declared.tree.Module.{Module}
+use Rattle.hold_vsyntax.specs.declared.tree.Ident.{Ident}
+use Rattle.hold_vsyntax.specs.declared.tree.Instance.{Instance}
+use Rattle.hold_vsyntax.specs.declared.tree.Assignment.{Assignment}
+use Rattle.hold_vsyntax.specs.declared.tree.Module.{Module}
+use Rattle.hold_vsyntax.specs.Named.{IsNamedModule}
 use Rattle.hold_vparse.specs.BitFaults.{misfit_assignment, misfit_named}
 use Rattle.hold_vparse.specs.Clear.{IsClear}
 use Rattle.hold_vparse.specs.DesignWith.{assigns_of, design_with}
 use Rattle.hold_vparse.specs.Lines.{assignments, instances}
-use Rattle.hold_vparse.specs.Named.{IsNamedModule}
 use Rattle.hold_vparse.specs.Nets.{nets}
 use Rattle.hold_vparse.proofs.NetlistLemmas.{nil_left, nil_right}
 use Rattle.hold_vparse.proofs.DeclaredFits.{declared-IsWellFormed}

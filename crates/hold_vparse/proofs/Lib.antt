@@ -6,23 +6,6 @@ pub mod NetRangeLemmas
 pub mod UnlikeLemmas
 pub mod UseLemmas
 pub mod PartLemmas
-pub mod RowLemmas
-pub mod NumberLemmas
-pub mod TokenLemmas
-pub mod ReadingLemmas
-pub mod RangeLaws
-pub mod PartLaws
-pub mod InstanceLaws
-pub mod PortLaws
-pub mod GivesLemmas
-pub mod HeaderLaws
-pub mod ItemLaws
-pub mod PieceLaws
-pub mod StepLemmas
-pub mod StopLemmas
-pub mod ModuleLemmas
-pub mod OneAnswer
-pub mod NamedLemmas
 pub mod OneReading
 pub mod CanonicalTree
 pub mod NameLists
@@ -51,7 +34,6 @@ pub mod CanonicalReads
 pub mod LayoutLemmas
 pub mod NetlistLemmas
 pub mod SoonestLemmas
-pub mod OrderLemmas
 pub mod PinLemmas
 pub mod FaultLemmas
 mod BarredLemmas
@@ -66,7 +48,5 @@ mod SelectedBits
 mod UsedNets
 pub mod DesignLemmas
 mod RolesEqual
-pub mod PlainLemmas
 pub mod SliceGetLemmas
 pub mod NumberTableLemmas
-pub mod SubtractionLemmas

@@ -3,7 +3,7 @@
 use Rattle.std.proofs.Common.{◌≡◌, map, Bool, true, false, refl, sym, subst, bytes_eq}
 use Rattle.std.proofs.lemmas.Slice.Eq.{bytes_eq-Decides}
 use Rattle.hold_netlist.specs.Names.{is_among}
-use Rattle.hold_vparse.specs.declared.tree.Module.{Module}
+use Rattle.hold_vsyntax.specs.declared.tree.Module.{Module}
 use Rattle.hold_vparse.specs.Lines.{wire_lines, instances}
 use Rattle.hold_vparse.specs.Nets.{names, port_idents, declared_names}
 use Rattle.hold_vparse.specs.DoubleNames.{Role, ListsPort, DeclaresPort, GivesDirection, DeclaresWire, DeclaresInstance, UsesNet, Mention, clash, mentions}

@@ -6,16 +6,16 @@ use Rattle.std.proofs.Common.{◌≡◌, List, [], ◌∷◌, ◌++◌, map, sym
 use Rattle.std.specs.Prelude.{flat_map}
 use Rattle.std.proofs.lemmas.List.{append_assoc, append_cancel_left}
 use Rattle.hold_vlex.specs.Lexed.{Lexeme}
-use Rattle.hold_vparse.specs.declared.mark.Mark.TheVariants.{EndModule, Semicolon}
-use Rattle.hold_vparse.specs.declared.tree.Item.{Item}
-use Rattle.hold_vparse.specs.declared.tree.Module.{Module}
-use Rattle.hold_vparse.specs.Symbols.{Symbol, Marked, symbol, symbols}
-use Rattle.hold_vparse.specs.Pieces.{is_piece, pieces}
-use Rattle.hold_vparse.specs.Passing.{first_piece, rest_behind}
-use Rattle.hold_vparse.specs.Grammar.{header_piece, item_symbols, item_piece, end_piece}
-use Rattle.hold_vparse.specs.Text.{IsModule}
-use Rattle.hold_vparse.proofs.PieceLaws.{cut_piece, item_first, opening_first}
-use Rattle.hold_vparse.proofs.StepLemmas.{not_empty, symbols_cut}
+use Rattle.hold_vsyntax.specs.declared.mark.Mark.TheVariants.{EndModule, Semicolon}
+use Rattle.hold_vsyntax.specs.declared.tree.Item.{Item}
+use Rattle.hold_vsyntax.specs.declared.tree.Module.{Module}
+use Rattle.hold_vsyntax.specs.Symbols.{Symbol, Marked, symbol, symbols}
+use Rattle.hold_vsyntax.specs.Pieces.{is_piece, pieces}
+use Rattle.hold_vsyntax.specs.Passing.{first_piece, rest_behind}
+use Rattle.hold_vsyntax.specs.Grammar.{header_piece, item_symbols, item_piece, end_piece}
+use Rattle.hold_vsyntax.specs.Text.{IsModule}
+use Rattle.hold_vsyntax.proofs.PieceLaws.{cut_piece, item_first, opening_first}
+use Rattle.hold_vsyntax.proofs.StepLemmas.{not_empty, symbols_cut}
 
 abbrev pub items_symbols : List Item → List Symbol
 items_symbols items = flat_map item_piece items

@@ -7,27 +7,27 @@ use Rattle.std.specs.Prelude.{Option}
 use Rattle.std.specs.List.{AllByRecursion}
 use Rattle.hold_netlist.specs.Names.{IsName}
 use Rattle.hold_netlist.specs.declared.wire.Direction.{Direction}
-use Rattle.hold_vparse.specs.declared.tree.Ident.{Ident}
-use Rattle.hold_vparse.specs.declared.tree.Several.{Several}
-use Rattle.hold_vparse.specs.declared.tree.HeaderPort.{HeaderPort}
-use Rattle.hold_vparse.specs.declared.tree.NextPort.{NextPort}
-use Rattle.hold_vparse.specs.declared.tree.NextPort.TheVariants.{Declared as DeclaredNext, Alike}
-use Rattle.hold_vparse.specs.declared.tree.Header.{Header}
-use Rattle.hold_vparse.specs.declared.tree.Header.TheVariants.{Bare, Plain, Declared}
-use Rattle.hold_vparse.specs.declared.tree.Tied.{Tied}
-use Rattle.hold_vparse.specs.declared.tree.Tied.TheVariants.{Open, Net, Bit as BitOf, Constant}
-use Rattle.hold_vparse.specs.declared.tree.Assignment.{Assignment}
-use Rattle.hold_vparse.specs.declared.tree.Connection.{Connection}
-use Rattle.hold_vparse.specs.declared.tree.Instance.{Instance}
-use Rattle.hold_vparse.specs.declared.tree.Item.{Item}
-use Rattle.hold_vparse.specs.declared.tree.Item.TheVariants.{Ports, Wires, Assignments, Instances}
-use Rattle.hold_vparse.specs.declared.tree.Module.{Module}
-use Rattle.hold_vparse.specs.Symbols.{Symbol}
-use Rattle.hold_vparse.specs.Grammar.{separated, several, listed, name_symbols, wire_symbols, range_symbols, port_symbols, next_port_symbols, header_symbols, assignment_symbols, tied_symbols, connection_symbols, instance_symbols, item_symbols, item_piece}
+use Rattle.hold_vsyntax.specs.declared.tree.Ident.{Ident}
+use Rattle.hold_vsyntax.specs.declared.tree.Several.{Several}
+use Rattle.hold_vsyntax.specs.declared.tree.HeaderPort.{HeaderPort}
+use Rattle.hold_vsyntax.specs.declared.tree.NextPort.{NextPort}
+use Rattle.hold_vsyntax.specs.declared.tree.NextPort.TheVariants.{Declared as DeclaredNext, Alike}
+use Rattle.hold_vsyntax.specs.declared.tree.Header.{Header}
+use Rattle.hold_vsyntax.specs.declared.tree.Header.TheVariants.{Bare, Plain, Declared}
+use Rattle.hold_vsyntax.specs.declared.tree.Tied.{Tied}
+use Rattle.hold_vsyntax.specs.declared.tree.Tied.TheVariants.{Open, Net, Bit as BitOf, Constant}
+use Rattle.hold_vsyntax.specs.declared.tree.Assignment.{Assignment}
+use Rattle.hold_vsyntax.specs.declared.tree.Connection.{Connection}
+use Rattle.hold_vsyntax.specs.declared.tree.Instance.{Instance}
+use Rattle.hold_vsyntax.specs.declared.tree.Item.{Item}
+use Rattle.hold_vsyntax.specs.declared.tree.Item.TheVariants.{Ports, Wires, Assignments, Instances}
+use Rattle.hold_vsyntax.specs.declared.tree.Module.{Module}
+use Rattle.hold_vsyntax.specs.Symbols.{Symbol}
+use Rattle.hold_vsyntax.specs.Grammar.{separated, several, listed, name_symbols, wire_symbols, range_symbols, port_symbols, next_port_symbols, header_symbols, assignment_symbols, tied_symbols, connection_symbols, instance_symbols, item_symbols, item_piece}
+use Rattle.hold_vsyntax.specs.Named.{AreNamed, IsNamedModule}
+use Rattle.hold_vsyntax.proofs.AllLemmas.{all-append}
 use Rattle.hold_vparse.specs.Lines.{all, PortLine, WireLine, bounds_of, wire_line, header_names, header_lines, next_lines, wires_of_item, wire_lines, instances_of_item, instances}
 use Rattle.hold_vparse.specs.Nets.{used_in_tied, used_in_instance, used_in_item, uses}
-use Rattle.hold_vparse.specs.Named.{AreNamed, IsNamedModule}
-use Rattle.hold_vparse.proofs.Pairs.{all-append}
 
 abbrev pub HasName : Ident → Type 0
 HasName i = IsName i.name

@@ -10,15 +10,16 @@ use Rattle.hold_netlist.specs.Names.{wire_names, pin_names, is_among}
 use Rattle.hold_netlist.specs.Doubles.{first_repeat, first_double_in_insts, first_double_name}
 use Rattle.hold_netlist.specs.declared.wire.Wire.{Wire}
 use Rattle.hold_netlist.specs.declared.inst.Inst.{Inst}
-use Rattle.hold_vparse.specs.declared.tree.Ident.{Ident}
-use Rattle.hold_vparse.specs.declared.tree.Assignment.{Assignment}
-use Rattle.hold_vparse.specs.declared.tree.Instance.{Instance}
-use Rattle.hold_vparse.specs.declared.tree.Module.{Module}
+use Rattle.hold_vsyntax.specs.declared.tree.Ident.{Ident}
+use Rattle.hold_vsyntax.specs.declared.tree.Assignment.{Assignment}
+use Rattle.hold_vsyntax.specs.declared.tree.Instance.{Instance}
+use Rattle.hold_vsyntax.specs.declared.tree.Module.{Module}
+use Rattle.hold_vsyntax.proofs.AllLemmas.{all-append}
 use Rattle.hold_vparse.specs.Lines.{PortLine, WireLine}
 use Rattle.hold_vparse.specs.Nets.{names, declared_names, used_in_instance}
 use Rattle.hold_vparse.specs.DoubleNames.{Role, ListsPort, GivesDirection, DeclaresWire, DeclaresInstance, UsesNet, Mention, mention, mentions_of_instance, mentions, doubles, repeated_in, doubled}
 use Rattle.hold_vparse.proofs.NameLists.{bytes_eq_self, is_among_left, is_among_right, if_none}
-use Rattle.hold_vparse.proofs.Pairs.{Each, all-append}
+use Rattle.hold_vparse.proofs.Pairs.{Each}
 use Rattle.hold_vparse.proofs.PortLines.{line_names, all_weaken, each_among}
 use Rattle.hold_vparse.proofs.Placed.{IsAmongWires, IsPlaced, placed_among, pins_once}
 use Rattle.hold_vparse.proofs.Statements.{Statements, module_of, body_mentions_of, mentions_in_placed, instances_of}

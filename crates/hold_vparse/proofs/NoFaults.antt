@@ -9,7 +9,7 @@ use Rattle.hold_netlist.specs.WellFormed.{HasBoundsInLimit, IsWrittenWire}
 use Rattle.hold_netlist.specs.Limits.{first_passed_limit}
 use Rattle.hold_netlist.specs.Valid.{IsValid}
 use Rattle.hold_netlist.specs.declared.wire.Wire.{Wire}
-use Rattle.hold_vparse.specs.declared.tree.Ident.{Ident}
+use Rattle.hold_vsyntax.specs.declared.tree.Ident.{Ident}
 use Rattle.hold_vparse.specs.Lines.{PortLine, WireLine, wire_lines, line_of, assignments, instances}
 use Rattle.hold_vparse.specs.Nets.{names, nets}
 use Rattle.hold_vparse.specs.PortFaults.{undirected, unlisted, unlike_line, unlike, misdeclared}

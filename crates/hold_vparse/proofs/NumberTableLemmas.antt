@@ -1,22 +1,18 @@
 -- Tables of numbers: how they grow, and what they tell of a number.
 use Rattle.std.proofs.Common.{◌≡◌, ℕ, zero, suc, ◌+◌, ◌<◌, ◌^◌, List, [], ◌∷◌, ◌++◌, Bool, true, false, cond, map, refl, sym, ap, ◌∙◌, subst, bytes_eq, is_none, length, arith, inl, inr, length-append}
 use Rattle.std.specs.Prelude.{Option, None, Some, slice_get}
-use Rattle.std.specs.Fmt.{decimal}
 use Rattle.std.specs.Option.{option_map}
 use Rattle.std.specs.List.{AllByRecursion}
 use Rattle.std.proofs.lemmas.List.{map-append, length-map}
 use Rattle.std.proofs.lemmas.Option.{slice_get-map}
 use Rattle.std.proofs.lemmas.Slice.Eq.{bytes_eq-Decides}
 use Rattle.hold_netlist.specs.NameTable.{names_of, number_of as named_number}
+use Rattle.hold_vsyntax.specs.Number.{number_of, IsPlain}
+use Rattle.hold_vsyntax.proofs.AllLemmas.{all-append}
+use Rattle.hold_vsyntax.proofs.PlainLemmas.{plain_same}
 use Rattle.hold_vparse.specs.Index.{place_of, IsIndex}
-use Rattle.hold_vparse.specs.declared.number.Kept.{Kept}
-use Rattle.hold_vparse.specs.declared.number.Kept.TheVariants.{Small}
-use Rattle.hold_vparse.specs.Number.{number_of, value_of, IsPlain}
 use Rattle.hold_vparse.specs.NumberTable.{OneEach, numbers_of, IsClassed}
 use Rattle.hold_vparse.proofs.IndexLemmas.{index_more}
-use Rattle.hold_vparse.proofs.NumberLemmas.{number_of-decimal}
-use Rattle.hold_vparse.proofs.Pairs.{all-append}
-use Rattle.hold_vparse.proofs.PlainLemmas.{plain_same}
 use Rattle.hold_vparse.proofs.SliceGetLemmas.{slice_get-seam, slice_get-push}
 
 -- at the place of a name stands that name
@@ -140,9 +136,3 @@ pub class_added : (pairs more : List (List ℕ × ℕ)) (many : ℕ) (name : Lis
     → new ≡ is_none (named_number name pairs) → more ≡ cond new (pairs ++ (name, many) ∷ []) pairs → slice_get (numbers_of more) many ≡ Some (number_of name)
 class_added pairs more many name new h none told put =
     ap (λ (ps : List (List ℕ × ℕ)). slice_get (numbers_of ps) many) (added_new pairs more name many new none told put) ∙ class_new pairs many name h
-
--- the number of plain digits that were taken from what std writes of a small number
-pub number_of-written : (kept : Kept) (n number : ℕ) (plain text written : List ℕ) → kept ≡ Small n → value_of kept ≡ number → n < 2 ^ 64
-    → number_of plain ≡ number_of text → text ≡ written → written ≡ decimal n → number_of plain ≡ number
-number_of-written kept n number plain text written is view small same bytes write =
-    same ∙ ap number_of (bytes ∙ write) ∙ number_of-decimal n small ∙ sym (ap value_of is) ∙ view

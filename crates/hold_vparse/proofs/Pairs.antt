@@ -3,6 +3,7 @@
 -- Each R xs ys: R holds of the items at each place, and the lists are as long.
 use Rattle.std.proofs.Common.{◌≡◌, List, [], ◌∷◌, ◌++◌, map, flat_map, refl}
 use Rattle.std.specs.List.{AllByRecursion}
+use Rattle.hold_vsyntax.proofs.AllLemmas.{all-append}
 
 abbrev pub Each : {X Y : Type 0} → (X → Y → Type 0) → List X → List Y → Type 0
 Each R [] [] = Unit {0}
@@ -30,10 +31,6 @@ none-Each R f gives [] [] h = refl
 none-Each R f gives [] (y ∷ ys) h = absurd h
 none-Each R f gives (x ∷ xs) [] h = absurd h
 none-Each R f gives (x ∷ xs) (y ∷ ys) h = let here = gives x y h.0 in let rest = none-Each R f gives xs ys h.1 in rw (here, rest) refl
-
-pub all-append : {A : Type 0} (P : A → Type 0) (xs ys : List A) → AllByRecursion P xs → AllByRecursion P ys → AllByRecursion P (xs ++ ys)
-all-append P [] ys h more = more
-all-append P (x ∷ xs) ys h more = (h.0, all-append P xs ys h.1 more)
 
 -- one that gives only such as P holds of
 pub all-Each : {X Y A : Type 0} (R : X → Y → Type 0) (P : A → Type 0) (f : Y → List A) (gives : (x : X) (y : Y) → R x y → AllByRecursion P (f y)) → (xs : List X) (ys : List Y) → Each R xs ys → AllByRecursion P (flat_map f ys)

@@ -6,8 +6,8 @@ use Rattle.std.proofs.lemmas.Slice.Eq.{bytes_eq-Decides}
 use Rattle.hold_netlist.specs.Names.{is_among}
 use Rattle.hold_netlist.specs.NameTable.{names_of, number_of}
 use Rattle.hold_netlist.proofs.NameTableLemmas.{is_none_number}
-use Rattle.hold_vparse.specs.declared.tree.Connection.{Connection}
-use Rattle.hold_vparse.specs.declared.tree.Ident.{Ident}
+use Rattle.hold_vsyntax.specs.declared.tree.Connection.{Connection}
+use Rattle.hold_vsyntax.specs.declared.tree.Ident.{Ident}
 use Rattle.hold_vparse.specs.DoubleNames.{repeated_pins}
 use Rattle.hold_vparse.proofs.NameLists.{is_among-append}
 

@@ -6,17 +6,17 @@ use Rattle.std.specs.Borrow.{Bor}
 use Rattle.std.proofs.lemmas.List.{map-append, append-nil}
 use Rattle.std.proofs.Math.ListN.{drop_of_length-le}
 use Rattle.hold_netlist.specs.declared.wire.Direction.{Direction}
-use Rattle.hold_vparse.specs.declared.tree.BodyPorts.{BodyPorts}
-use Rattle.hold_vparse.specs.declared.tree.BodyWires.{BodyWires}
-use Rattle.hold_vparse.specs.declared.tree.Header.{Header}
-use Rattle.hold_vparse.specs.declared.tree.HeaderPort.{HeaderPort}
-use Rattle.hold_vparse.specs.declared.tree.Ident.{Ident}
-use Rattle.hold_vparse.specs.declared.tree.Item.{Item}
-use Rattle.hold_vparse.specs.declared.tree.Item.TheVariants.{Ports, Wires}
-use Rattle.hold_vparse.specs.declared.tree.NextPort.{NextPort}
-use Rattle.hold_vparse.specs.declared.tree.NextPort.TheVariants.{Declared, Alike}
+use Rattle.hold_vsyntax.specs.declared.tree.BodyPorts.{BodyPorts}
+use Rattle.hold_vsyntax.specs.declared.tree.BodyWires.{BodyWires}
+use Rattle.hold_vsyntax.specs.declared.tree.Header.{Header}
+use Rattle.hold_vsyntax.specs.declared.tree.HeaderPort.{HeaderPort}
+use Rattle.hold_vsyntax.specs.declared.tree.Ident.{Ident}
+use Rattle.hold_vsyntax.specs.declared.tree.Item.{Item}
+use Rattle.hold_vsyntax.specs.declared.tree.Item.TheVariants.{Ports, Wires}
+use Rattle.hold_vsyntax.specs.declared.tree.NextPort.{NextPort}
+use Rattle.hold_vsyntax.specs.declared.tree.NextPort.TheVariants.{Declared, Alike}
+use Rattle.hold_vsyntax.specs.declared.tree.Range.{Range}
 use Rattle.hold_vparse.specs.Bounds.{Hold, Holds, Grows}
-use Rattle.hold_vparse.specs.declared.tree.Range.{Range}
 use Rattle.hold_vparse.specs.Flat.{seen_range}
 use Rattle.hold_vparse.specs.Index.{at_place}
 use Rattle.hold_vparse.specs.Lines.{PortLine, WireLine, all, header_line, header_lines, next_lines, bounds_of, port_line, wire_line, lines_of_item, wires_of_item, body_lines, wire_lines}

@@ -8,7 +8,7 @@ use Rattle.std.proofs.lemmas.Bool.{or_parts, or_right}
 use Rattle.std.proofs.lemmas.Slice.Eq.{bytes_eq-Decides}
 use Rattle.hold_netlist.specs.Names.{is_among}
 use Rattle.hold_netlist.specs.declared.wire.Direction.{Direction}
-use Rattle.hold_vparse.specs.declared.tree.Ident.{Ident}
+use Rattle.hold_vsyntax.specs.declared.tree.Ident.{Ident}
 use Rattle.hold_vparse.specs.Lines.{PortLine, port_line, line_of, as_declared}
 use Rattle.hold_vparse.specs.Nets.{names}
 use Rattle.hold_vparse.proofs.NameLists.{Differ, bytes_eq_self, bytes_eq-swap}

@@ -12,13 +12,13 @@ use Rattle.hold_netlist.specs.WellFormed.{IsSource, IsWrittenAssign}
 use Rattle.hold_netlist.specs.declared.wire.Wire.{Wire}
 use Rattle.hold_netlist.specs.declared.inst.Source.{Source}
 use Rattle.hold_netlist.specs.declared.inst.Source.TheVariants.{Zero, One, Empty}
-use Rattle.hold_vparse.specs.declared.tree.Selected.{Selected}
-use Rattle.hold_vparse.specs.declared.tree.Selected.TheVariants.{Whole, Bit, Part as Bits}
-use Rattle.hold_vparse.specs.declared.tree.Part.{Part}
-use Rattle.hold_vparse.specs.declared.tree.Right.{Right}
-use Rattle.hold_vparse.specs.declared.tree.Right.TheVariants.{Net as Side, Constant as ConstantSide}
-use Rattle.hold_vparse.specs.declared.tree.Assignment.{Assignment}
-use Rattle.hold_vparse.specs.declared.tree.Ident.{Ident}
+use Rattle.hold_vsyntax.specs.declared.tree.Selected.{Selected}
+use Rattle.hold_vsyntax.specs.declared.tree.Selected.TheVariants.{Whole, Bit, Part as Bits}
+use Rattle.hold_vsyntax.specs.declared.tree.Part.{Part}
+use Rattle.hold_vsyntax.specs.declared.tree.Right.{Right}
+use Rattle.hold_vsyntax.specs.declared.tree.Right.TheVariants.{Net as Side, Constant as ConstantSide}
+use Rattle.hold_vsyntax.specs.declared.tree.Assignment.{Assignment}
+use Rattle.hold_vsyntax.specs.declared.tree.Ident.{Ident}
 use Rattle.hold_vparse.specs.Lines.{range_bounds}
 use Rattle.hold_vparse.specs.BitFaults.{Reach, reach, is_within, runs_along, has_bits, is_missing, is_missing_part, part_width, right_width, differ, misfit_left, misfit_right, misfit_assignment}
 use Rattle.hold_vparse.specs.Declares.{first_bit, place_in, selected_bits, part_bits, net_bit, constant, sources, tied_bits, assigned}

@@ -15,8 +15,8 @@ use Rattle.hold_netlist.specs.Identifier.{is_word_byte, is_letter}
 use Rattle.hold_netlist.specs.WellFormed.{HasBoundsInLimit, IsWrittenWire, IsSource}
 use Rattle.hold_netlist.specs.CanonicalText.{spelled, range_text, index_text, bit_of_wire, bit_text, source_text}
 use Rattle.hold_vlex.specs.Bytes.{heads, star}
-use Rattle.hold_vparse.specs.Symbols.{Symbol, Named, ident}
-use Rattle.hold_vparse.specs.Grammar.{range_symbols, selected_symbols, part_symbols, right_symbols, tied_symbols}
+use Rattle.hold_vsyntax.specs.Symbols.{Symbol, Named, ident}
+use Rattle.hold_vsyntax.specs.Grammar.{range_symbols, selected_symbols, part_symbols, right_symbols, tied_symbols}
 use Rattle.hold_vparse.proofs.CanonicalTree.{range_of, index_of, selected_of, part_of, bit_part, tied_to, tied_of, right_of}
 use Rattle.hold_vparse.proofs.Spells.{Spells, Spells-nil, join}
 use Rattle.hold_vparse.proofs.SpelledTokens.{Breaks, Spells-blank, Spells-spelled, Spells-decimal, Spells-zero, Spells-one, Spells-colon, Spells-left_bracket, Spells-right_bracket}

@@ -16,9 +16,9 @@ use Rattle.hold_netlist.specs.Keywords.{keywords}
 use Rattle.hold_netlist.specs.WellFormed.{HasBoundsInLimit, IsWrittenWire, IsWrittenPin, IsWrittenInst, IsWrittenAssign}
 use Rattle.hold_netlist.specs.CanonicalText.{spelled, joined, range_text, direction_text, bit_text, source_text, port_line, wire_line, assign_line, connection_text, inst_line, module_line}
 use Rattle.hold_vlex.specs.Bytes.{heads, star}
-use Rattle.hold_vparse.specs.declared.mark.Mark.TheVariants.{Module as TheModule, EndModule, Input, Output, Wire as TheWire, Assign as TheAssign, Comma, Semicolon, Equals, LeftParenthesis, RightParenthesis}
-use Rattle.hold_vparse.specs.Symbols.{Symbol, Marked, Named, ident, mark_words, word_symbol}
-use Rattle.hold_vparse.specs.Grammar.{listed, name_symbols, range_symbols, direction_mark, part_symbols, right_symbols, connection_symbols, header_symbols, item_piece}
+use Rattle.hold_vsyntax.specs.declared.mark.Mark.TheVariants.{Module as TheModule, EndModule, Input, Output, Wire as TheWire, Assign as TheAssign, Comma, Semicolon, Equals, LeftParenthesis, RightParenthesis}
+use Rattle.hold_vsyntax.specs.Symbols.{Symbol, Marked, Named, ident, mark_words, word_symbol}
+use Rattle.hold_vsyntax.specs.Grammar.{listed, name_symbols, range_symbols, direction_mark, part_symbols, right_symbols, connection_symbols, header_symbols, item_piece}
 use Rattle.hold_vparse.proofs.CanonicalTree.{range_of, bit_part, right_of, names_at, port_item, wire_item, assign_item, connection_at, connections_at, inst_item, header_at}
 use Rattle.hold_vparse.proofs.Spells.{Spells, Spells-nil, Spells-as, join}
 use Rattle.hold_vparse.proofs.SpelledTokens.{Breaks, Spells-blank, Spells-newline, Spells-spelled, Spells-keyword, Spells-comma, Spells-semicolon, Spells-dot, Spells-equals, Spells-left_parenthesis, Spells-right_parenthesis}

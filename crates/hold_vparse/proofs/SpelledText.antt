@@ -14,9 +14,9 @@ use Rattle.hold_netlist.specs.Names.{IsName, port_names, wire_names}
 use Rattle.hold_netlist.specs.WellFormed.{IsWrittenWire, IsWrittenInst, IsWrittenAssign, IsWellFormed}
 use Rattle.hold_netlist.specs.CanonicalText.{port_line, port_lines, wire_line, assign_line, inst_line, module_line, canonical_text}
 use Rattle.hold_vlex.specs.Lexed.{lexed}
-use Rattle.hold_vparse.specs.declared.tree.Item.{Item}
-use Rattle.hold_vparse.specs.Symbols.{Symbol, symbols}
-use Rattle.hold_vparse.specs.Grammar.{header_piece, item_piece, end_piece}
+use Rattle.hold_vsyntax.specs.declared.tree.Item.{Item}
+use Rattle.hold_vsyntax.specs.Symbols.{Symbol, symbols}
+use Rattle.hold_vsyntax.specs.Grammar.{header_piece, item_piece, end_piece}
 use Rattle.hold_vparse.proofs.CanonicalTree.{port_items, wire_items, assign_items, inst_items, tree_of}
 use Rattle.hold_vparse.proofs.ModulePieces.{items_symbols, module_symbols}
 use Rattle.hold_vparse.proofs.Spells.{Spells, Spells-nil, Spells-as, join, seen-whole}

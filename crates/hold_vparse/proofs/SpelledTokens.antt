@@ -17,10 +17,10 @@ use Rattle.hold_vlex.specs.Bytes.{slash, backslash, backquote, left_parenthesis,
 use Rattle.hold_vlex.specs.Front.{Read, escaped, number_sort, whole, front}
 use Rattle.hold_vlex.specs.declared.token.Sort.{Sort}
 use Rattle.hold_vlex.specs.declared.token.Sort.TheVariants.{Word, Escaped, Number, Constant, Sign}
-use Rattle.hold_vparse.specs.declared.mark.Mark.{Mark}
-use Rattle.hold_vparse.specs.declared.mark.Mark.TheVariants.{Comma, Semicolon, Colon, Dot, Equals, LeftParenthesis, RightParenthesis, LeftBracket, RightBracket}
-use Rattle.hold_vparse.specs.Symbols.{Symbol, Marked, Named, Counted, Tied, ident, word_symbol, sign_mark}
-use Rattle.hold_vparse.proofs.NumberLemmas.{number_of-digits, is_digit-from_value, all-digits}
+use Rattle.hold_vsyntax.specs.declared.mark.Mark.{Mark}
+use Rattle.hold_vsyntax.specs.declared.mark.Mark.TheVariants.{Comma, Semicolon, Colon, Dot, Equals, LeftParenthesis, RightParenthesis, LeftBracket, RightBracket}
+use Rattle.hold_vsyntax.specs.Symbols.{Symbol, Marked, Named, Counted, Tied, ident, word_symbol, sign_mark}
+use Rattle.hold_vsyntax.proofs.NumberLemmas.{number_of-digits, is_digit-from_value, all-digits}
 use Rattle.hold_vparse.proofs.SliceGetLemmas.{slice_get-seam}
 use Rattle.hold_vparse.proofs.Spells.{Spells, Spells-past, Spells-read, join, Stops, prefix_len-run, take_while-run}
 

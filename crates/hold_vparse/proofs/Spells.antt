@@ -16,7 +16,7 @@ use Rattle.hold_vlex.specs.Lexed.{Lexed, lexed_by, lexed_from, lexed}
 use Rattle.hold_vlex.specs.declared.token.Sort.{Sort}
 use Rattle.hold_vlex.specs.declared.fault.LexFault.{LexFault}
 use Rattle.hold_vlex.proofs.LexedLemmas.{lexed_from-front}
-use Rattle.hold_vparse.specs.Symbols.{Symbol, symbols, symbol_of}
+use Rattle.hold_vsyntax.specs.Symbols.{Symbol, symbols, symbol_of}
 
 pub record Seen : Type 0 where
   pub symbols : List Symbol

@@ -6,13 +6,13 @@ use Rattle.std.proofs.Common.{◌≡◌, ℕ, List, [], ◌∷◌, ◌++◌, map
 use Rattle.std.specs.Prelude.{Option, Some, None}
 use Rattle.std.proofs.lemmas.List.{append-nil}
 use Rattle.std.proofs.lemmas.List.Concat.{flat_map-append, flat_map_single}
-use Rattle.hold_vparse.specs.declared.tree.Ident.{Ident}
-use Rattle.hold_vparse.specs.declared.tree.Header.TheVariants.{Plain}
-use Rattle.hold_vparse.specs.declared.tree.Assignment.{Assignment}
-use Rattle.hold_vparse.specs.declared.tree.Instance.{Instance}
-use Rattle.hold_vparse.specs.declared.tree.Item.{Item}
-use Rattle.hold_vparse.specs.declared.tree.Item.TheVariants.{Ports, Wires, Assignments, Instances}
-use Rattle.hold_vparse.specs.declared.tree.Module.{Module}
+use Rattle.hold_vsyntax.specs.declared.tree.Ident.{Ident}
+use Rattle.hold_vsyntax.specs.declared.tree.Header.TheVariants.{Plain}
+use Rattle.hold_vsyntax.specs.declared.tree.Assignment.{Assignment}
+use Rattle.hold_vsyntax.specs.declared.tree.Instance.{Instance}
+use Rattle.hold_vsyntax.specs.declared.tree.Item.{Item}
+use Rattle.hold_vsyntax.specs.declared.tree.Item.TheVariants.{Ports, Wires, Assignments, Instances}
+use Rattle.hold_vsyntax.specs.declared.tree.Module.{Module}
 use Rattle.hold_vparse.specs.Lines.{PortLine, WireLine, port_line, wire_line, bounds_of, lines_of_item, body_lines, wires_of_item, wire_lines, assignments_of_item, assignments, instances_of_item, instances}
 use Rattle.hold_vparse.specs.Nets.{used_in_instance, used_in_item, uses}
 use Rattle.hold_vparse.specs.DoubleNames.{Mention, mention, GivesDirection, DeclaresWire, UsesNet, mentions_of_instance, mentions_of_item}

@@ -12,10 +12,10 @@ use Rattle.hold_netlist.specs.declared.inst.Source.TheVariants.{Net as NetBit, Z
 use Rattle.hold_netlist.specs.declared.inst.Pin.{Pin}
 use Rattle.hold_netlist.specs.declared.inst.Inst.{Inst}
 use Rattle.hold_netlist.specs.declared.inst.Assign.{Assign}
-use Rattle.hold_vparse.specs.declared.tree.Ident.{Ident}
-use Rattle.hold_vparse.specs.declared.tree.Part.{Part}
-use Rattle.hold_vparse.specs.declared.tree.Selected.{Selected}
-use Rattle.hold_vparse.specs.declared.tree.Selected.TheVariants.{Whole, Bit, Part as Bits}
+use Rattle.hold_vsyntax.specs.declared.tree.Ident.{Ident}
+use Rattle.hold_vsyntax.specs.declared.tree.Part.{Part}
+use Rattle.hold_vsyntax.specs.declared.tree.Selected.{Selected}
+use Rattle.hold_vsyntax.specs.declared.tree.Selected.TheVariants.{Whole, Bit, Part as Bits}
 use Rattle.hold_vparse.specs.Lines.{assignments, instances}
 use Rattle.hold_vparse.proofs.CanonicalTree.{selected_of, part_of, bit_part, tied_to, tied_of, right_of, assign_items, connections_at, inst_items}
 use Rattle.hold_vparse.proofs.NameLists.{Differ}

@@ -7,10 +7,10 @@ use Rattle.std.proofs.lemmas.List.{append-nil, map-append}
 use Rattle.std.proofs.lemmas.Slice.Eq.{bytes_eq-Decides}
 use Rattle.hold_netlist.specs.Names.{wire_names, is_among}
 use Rattle.hold_netlist.specs.declared.wire.Wire.{Wire}
-use Rattle.hold_vparse.specs.declared.tree.Ident.{Ident}
-use Rattle.hold_vparse.specs.declared.tree.Header.{Header}
-use Rattle.hold_vparse.specs.declared.tree.Header.TheVariants.{Bare, Plain, Declared}
-use Rattle.hold_vparse.specs.declared.tree.Module.{Module}
+use Rattle.hold_vsyntax.specs.declared.tree.Ident.{Ident}
+use Rattle.hold_vsyntax.specs.declared.tree.Header.{Header}
+use Rattle.hold_vsyntax.specs.declared.tree.Header.TheVariants.{Bare, Plain, Declared}
+use Rattle.hold_vsyntax.specs.declared.tree.Module.{Module}
 use Rattle.hold_vparse.specs.Lines.{PortLine, WireLine, header_names, header_lines, body_lines, wire_lines, line_of, as_declared, ports_in}
 use Rattle.hold_vparse.specs.Nets.{names, port_idents, declared_names, uses, first_uses, wire, port_wires, other_wires, implicit_wires, nets}
 use Rattle.hold_vparse.specs.PortFaults.{unlisted}

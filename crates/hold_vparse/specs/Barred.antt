@@ -8,9 +8,9 @@ use Rattle.std.specs.Prelude.{◌≡◌, ℕ, Bool, false, List, Option, Some, N
 use Rattle.std.specs.declared.alloc.Global.{Global}
 use Rattle.std.specs.List.{list_any}
 use Rattle.std.specs.Map.{lookup}
+use Rattle.hold_vsyntax.specs.declared.tree.Module.{Module}
 use Rattle.hold_vparse.specs.declared.barred.Barred.{Barred}
 use Rattle.hold_vparse.specs.declared.barred_names.BarredNames.{BarredNames}
-use Rattle.hold_vparse.specs.declared.tree.Module.{Module}
 use Rattle.hold_vparse.specs.DoubleNames.{Mention, Role, ListsPort, DeclaresPort, GivesDirection, DeclaresWire, DeclaresInstance, UsesNet, declares_again}
 
 abbrev pub is_barred : Barred → Role → Bool

@@ -19,18 +19,18 @@
 use Rattle.std.specs.Prelude.{ℕ, Bool, true, false, not, ◌&&◌, ◌||◌, ◌==◌, nat_le, min, max, bytes_eq, List, [], ◌∷◌, ◌++◌, flat_map, if◌then◌else◌, Option, Some, None}
 use Rattle.hold_netlist.specs.Bits.{width_of_range}
 use Rattle.hold_netlist.specs.declared.wire.Wire.{Wire}
-use Rattle.hold_vparse.specs.declared.tree.Ident.{Ident}
-use Rattle.hold_vparse.specs.declared.tree.Selected.{Selected}
-use Rattle.hold_vparse.specs.declared.tree.Selected.TheVariants.{Whole, Bit, Part as Bits}
-use Rattle.hold_vparse.specs.declared.tree.Part.{Part}
-use Rattle.hold_vparse.specs.declared.tree.Right.{Right}
-use Rattle.hold_vparse.specs.declared.tree.Right.TheVariants.{Net as Side, Constant as ConstantSide}
-use Rattle.hold_vparse.specs.declared.tree.Assignment.{Assignment}
-use Rattle.hold_vparse.specs.declared.tree.Tied.{Tied}
-use Rattle.hold_vparse.specs.declared.tree.Tied.TheVariants.{Open, Net, Bit as BitOf, Constant}
-use Rattle.hold_vparse.specs.declared.tree.Connection.{Connection}
-use Rattle.hold_vparse.specs.declared.tree.Instance.{Instance}
-use Rattle.hold_vparse.specs.declared.tree.Module.{Module}
+use Rattle.hold_vsyntax.specs.declared.tree.Ident.{Ident}
+use Rattle.hold_vsyntax.specs.declared.tree.Selected.{Selected}
+use Rattle.hold_vsyntax.specs.declared.tree.Selected.TheVariants.{Whole, Bit, Part as Bits}
+use Rattle.hold_vsyntax.specs.declared.tree.Part.{Part}
+use Rattle.hold_vsyntax.specs.declared.tree.Right.{Right}
+use Rattle.hold_vsyntax.specs.declared.tree.Right.TheVariants.{Net as Side, Constant as ConstantSide}
+use Rattle.hold_vsyntax.specs.declared.tree.Assignment.{Assignment}
+use Rattle.hold_vsyntax.specs.declared.tree.Tied.{Tied}
+use Rattle.hold_vsyntax.specs.declared.tree.Tied.TheVariants.{Open, Net, Bit as BitOf, Constant}
+use Rattle.hold_vsyntax.specs.declared.tree.Connection.{Connection}
+use Rattle.hold_vsyntax.specs.declared.tree.Instance.{Instance}
+use Rattle.hold_vsyntax.specs.declared.tree.Module.{Module}
 use Rattle.hold_vparse.specs.Lines.{range_bounds, assignments, instances}
 use Rattle.hold_vparse.specs.Nets.{nets}
 

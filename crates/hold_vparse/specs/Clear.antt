@@ -2,7 +2,7 @@
 --   and no bound is large. So only a count can be past its limit.
 use Rattle.std.specs.Prelude.{◌≡◌, false, []}
 use Rattle.std.specs.List.{list_any}
-use Rattle.hold_vparse.specs.declared.tree.Module.{Module}
+use Rattle.hold_vsyntax.specs.declared.tree.Module.{Module}
 use Rattle.hold_vparse.specs.Nets.{nets}
 use Rattle.hold_vparse.specs.DoubleNames.{doubled}
 use Rattle.hold_vparse.specs.PortFaults.{misdeclared}

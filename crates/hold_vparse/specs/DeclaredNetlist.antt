@@ -2,8 +2,8 @@
 -- IsFirstNameFault m fault: the fault is the first that the module's names and limits are refused for.
 use Rattle.std.specs.Prelude.{◌≡◌, Some, None}
 use Rattle.hold_netlist.specs.Design.{Design}
+use Rattle.hold_vsyntax.specs.declared.tree.Module.{Module}
 use Rattle.hold_vparse.specs.declared.fault.VerilogFault.{VerilogFault}
-use Rattle.hold_vparse.specs.declared.tree.Module.{Module}
 use Rattle.hold_vparse.specs.NameFaults.{first_name_fault}
 use Rattle.hold_vparse.specs.Declares.{design_of}
 

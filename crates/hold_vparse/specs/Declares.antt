@@ -25,18 +25,18 @@ use Rattle.hold_netlist.specs.declared.inst.Source.TheVariants.{Net as NetBit, Z
 use Rattle.hold_netlist.specs.declared.inst.Pin.{Pin}
 use Rattle.hold_netlist.specs.declared.inst.Inst.{Inst}
 use Rattle.hold_netlist.specs.declared.inst.Assign.{Assign}
-use Rattle.hold_vparse.specs.declared.tree.Ident.{Ident}
-use Rattle.hold_vparse.specs.declared.tree.Selected.{Selected}
-use Rattle.hold_vparse.specs.declared.tree.Selected.TheVariants.{Whole, Bit, Part as Bits}
-use Rattle.hold_vparse.specs.declared.tree.Part.{Part}
-use Rattle.hold_vparse.specs.declared.tree.Right.{Right}
-use Rattle.hold_vparse.specs.declared.tree.Right.TheVariants.{Net as Side, Constant as ConstantSide}
-use Rattle.hold_vparse.specs.declared.tree.Assignment.{Assignment}
-use Rattle.hold_vparse.specs.declared.tree.Tied.{Tied}
-use Rattle.hold_vparse.specs.declared.tree.Tied.TheVariants.{Open, Net, Bit as BitOf, Constant}
-use Rattle.hold_vparse.specs.declared.tree.Connection.{Connection}
-use Rattle.hold_vparse.specs.declared.tree.Instance.{Instance}
-use Rattle.hold_vparse.specs.declared.tree.Module.{Module}
+use Rattle.hold_vsyntax.specs.declared.tree.Ident.{Ident}
+use Rattle.hold_vsyntax.specs.declared.tree.Selected.{Selected}
+use Rattle.hold_vsyntax.specs.declared.tree.Selected.TheVariants.{Whole, Bit, Part as Bits}
+use Rattle.hold_vsyntax.specs.declared.tree.Part.{Part}
+use Rattle.hold_vsyntax.specs.declared.tree.Right.{Right}
+use Rattle.hold_vsyntax.specs.declared.tree.Right.TheVariants.{Net as Side, Constant as ConstantSide}
+use Rattle.hold_vsyntax.specs.declared.tree.Assignment.{Assignment}
+use Rattle.hold_vsyntax.specs.declared.tree.Tied.{Tied}
+use Rattle.hold_vsyntax.specs.declared.tree.Tied.TheVariants.{Open, Net, Bit as BitOf, Constant}
+use Rattle.hold_vsyntax.specs.declared.tree.Connection.{Connection}
+use Rattle.hold_vsyntax.specs.declared.tree.Instance.{Instance}
+use Rattle.hold_vsyntax.specs.declared.tree.Module.{Module}
 use Rattle.hold_vparse.specs.Lines.{PortLine, range_bounds, ports_of, assignments, instances}
 use Rattle.hold_vparse.specs.Nets.{nets}
 use Rattle.hold_vparse.specs.BitFaults.{Reach, reach}

@@ -8,9 +8,9 @@ use Rattle.hold_netlist.specs.Design.{Design, design}
 use Rattle.hold_netlist.specs.Limits.{first_passed_limit}
 use Rattle.hold_netlist.specs.declared.inst.Inst.{Inst}
 use Rattle.hold_netlist.specs.declared.inst.Assign.{Assign}
+use Rattle.hold_vsyntax.specs.declared.tree.Module.{Module}
 use Rattle.hold_vparse.specs.declared.fault.VerilogFault.{VerilogFault}
 use Rattle.hold_vparse.specs.declared.fault.VerilogFault.TheVariants.{Limit}
-use Rattle.hold_vparse.specs.declared.tree.Module.{Module}
 use Rattle.hold_vparse.specs.Lines.{ports_of, assignments, instances}
 use Rattle.hold_vparse.specs.Nets.{nets}
 use Rattle.hold_vparse.specs.Declares.{port, inst, assigned}

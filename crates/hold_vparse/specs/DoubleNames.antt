@@ -21,13 +21,13 @@ use Rattle.std.specs.List.{list_any}
 use Rattle.hold_netlist.specs.Names.{is_among}
 pub use Rattle.hold_vparse.specs.declared.mentions.Role.{Role}
 pub use Rattle.hold_vparse.specs.declared.mentions.Role.TheVariants.{ListsPort, DeclaresPort, GivesDirection, DeclaresWire, DeclaresInstance, UsesNet}
-use Rattle.hold_vparse.specs.declared.tree.Ident.{Ident}
-use Rattle.hold_vparse.specs.declared.tree.Assignment.{Assignment}
-use Rattle.hold_vparse.specs.declared.tree.Connection.{Connection}
-use Rattle.hold_vparse.specs.declared.tree.Instance.{Instance}
-use Rattle.hold_vparse.specs.declared.tree.Item.{Item}
-use Rattle.hold_vparse.specs.declared.tree.Item.TheVariants.{Ports, Wires, Assignments, Instances}
-use Rattle.hold_vparse.specs.declared.tree.Module.{Module}
+use Rattle.hold_vsyntax.specs.declared.tree.Ident.{Ident}
+use Rattle.hold_vsyntax.specs.declared.tree.Assignment.{Assignment}
+use Rattle.hold_vsyntax.specs.declared.tree.Connection.{Connection}
+use Rattle.hold_vsyntax.specs.declared.tree.Instance.{Instance}
+use Rattle.hold_vsyntax.specs.declared.tree.Item.{Item}
+use Rattle.hold_vsyntax.specs.declared.tree.Item.TheVariants.{Ports, Wires, Assignments, Instances}
+use Rattle.hold_vsyntax.specs.declared.tree.Module.{Module}
 use Rattle.hold_vparse.specs.Lines.{all, PortLine, header_names, header_lines, instances}
 use Rattle.hold_vparse.specs.Nets.{names, declared_names, used_in_instance}
 

@@ -10,9 +10,9 @@
 -- net_wires wires: the wires of these lines.
 use Rattle.std.specs.Prelude.{ℕ, Option, Some, None, List, [], ◌∷◌, map}
 use Rattle.std.specs.Borrow.{Bor}
-use Rattle.hold_vparse.specs.declared.tree.Ident.{Ident}
-use Rattle.hold_vparse.specs.declared.tree.Range.{Range}
-use Rattle.hold_vparse.specs.declared.tree.Instance.{Instance}
+use Rattle.hold_vsyntax.specs.declared.tree.Ident.{Ident}
+use Rattle.hold_vsyntax.specs.declared.tree.Range.{Range}
+use Rattle.hold_vsyntax.specs.declared.tree.Instance.{Instance}
 use Rattle.hold_vparse.specs.declared.lines.Port.{Port}
 use Rattle.hold_vparse.specs.declared.lines.NamedWire.{NamedWire}
 use Rattle.hold_vparse.specs.declared.mentions.Mention.{Mention as Named}

@@ -2,7 +2,7 @@
 -- found_ident found: the identifier behind a reference, where there is one.
 use Rattle.std.specs.Prelude.{Option, Some, None}
 use Rattle.std.specs.Borrow.{Bor}
-use Rattle.hold_vparse.specs.declared.tree.Ident.{Ident}
+use Rattle.hold_vsyntax.specs.declared.tree.Ident.{Ident}
 use Rattle.hold_vparse.specs.Soonest.{sooner}
 
 abbrev pub merged : Option Ident → Option Ident → Option Ident

@@ -1,10 +1,5 @@
-pub mod Number
 pub mod Bounds
 pub mod Index
-pub mod Symbols
-pub mod Pieces
-pub mod Grammar
-pub mod Text
 pub mod Lines
 pub mod Nets
 pub mod Soonest
@@ -13,7 +8,6 @@ pub mod Measured
 pub mod Ranges
 pub mod Widths
 pub mod NamedTree
-pub mod NumberOrder
 pub mod NumberTable
 pub mod DoubleNames
 pub mod Flat
@@ -24,14 +18,6 @@ pub mod BitFaults
 pub mod Declares
 pub mod NameFaults
 pub mod Reads
-pub mod Shown
-pub mod Reading
-pub mod Tokens
-pub mod Gives
-pub mod Passing
-pub mod Body
-pub mod Whole
-pub mod Named
 pub mod Barred
 pub mod DeclaredNetlist
 pub mod Clear

@@ -18,19 +18,19 @@
 use Rattle.std.specs.Prelude.{ℕ, List, [], ◌∷◌, map, flat_map, bytes_eq, if◌then◌else◌, Option, Some, None}
 use Rattle.hold_netlist.specs.declared.wire.Direction.{Direction}
 use Rattle.hold_netlist.specs.declared.wire.Direction.TheVariants.{Input}
-use Rattle.hold_vparse.specs.declared.tree.Ident.{Ident}
-use Rattle.hold_vparse.specs.declared.tree.Several.{Several}
-use Rattle.hold_vparse.specs.declared.tree.Range.{Range}
-use Rattle.hold_vparse.specs.declared.tree.HeaderPort.{HeaderPort}
-use Rattle.hold_vparse.specs.declared.tree.NextPort.{NextPort}
-use Rattle.hold_vparse.specs.declared.tree.NextPort.TheVariants.{Declared as DeclaredNext, Alike}
-use Rattle.hold_vparse.specs.declared.tree.Header.{Header}
-use Rattle.hold_vparse.specs.declared.tree.Header.TheVariants.{Bare, Plain, Declared}
-use Rattle.hold_vparse.specs.declared.tree.Assignment.{Assignment}
-use Rattle.hold_vparse.specs.declared.tree.Instance.{Instance}
-use Rattle.hold_vparse.specs.declared.tree.Item.{Item}
-use Rattle.hold_vparse.specs.declared.tree.Item.TheVariants.{Ports, Wires, Assignments, Instances}
-use Rattle.hold_vparse.specs.declared.tree.Module.{Module}
+use Rattle.hold_vsyntax.specs.declared.tree.Ident.{Ident}
+use Rattle.hold_vsyntax.specs.declared.tree.Several.{Several}
+use Rattle.hold_vsyntax.specs.declared.tree.Range.{Range}
+use Rattle.hold_vsyntax.specs.declared.tree.HeaderPort.{HeaderPort}
+use Rattle.hold_vsyntax.specs.declared.tree.NextPort.{NextPort}
+use Rattle.hold_vsyntax.specs.declared.tree.NextPort.TheVariants.{Declared as DeclaredNext, Alike}
+use Rattle.hold_vsyntax.specs.declared.tree.Header.{Header}
+use Rattle.hold_vsyntax.specs.declared.tree.Header.TheVariants.{Bare, Plain, Declared}
+use Rattle.hold_vsyntax.specs.declared.tree.Assignment.{Assignment}
+use Rattle.hold_vsyntax.specs.declared.tree.Instance.{Instance}
+use Rattle.hold_vsyntax.specs.declared.tree.Item.{Item}
+use Rattle.hold_vsyntax.specs.declared.tree.Item.TheVariants.{Ports, Wires, Assignments, Instances}
+use Rattle.hold_vsyntax.specs.declared.tree.Module.{Module}
 
 abbrev pub all : {X : Type 0} → Several X → List X
 all s = s.first ∷ s.rest

@@ -11,10 +11,10 @@ use Rattle.hold_base.specs.declared.stop.What.{What}
 use Rattle.hold_base.specs.declared.stop.What.TheVariants.{Bound}
 use Rattle.hold_netlist.specs.declared.wire.Wire.{Wire}
 use Rattle.hold_netlist.specs.Limits.{first_passed_limit}
+use Rattle.hold_vsyntax.specs.declared.tree.Ident.{Ident}
+use Rattle.hold_vsyntax.specs.declared.tree.Module.{Module}
 use Rattle.hold_vparse.specs.declared.fault.VerilogFault.{VerilogFault}
 use Rattle.hold_vparse.specs.declared.fault.VerilogFault.TheVariants.{DoubleName, BadPort, BadBit, Limit}
-use Rattle.hold_vparse.specs.declared.tree.Ident.{Ident}
-use Rattle.hold_vparse.specs.declared.tree.Module.{Module}
 use Rattle.hold_vparse.specs.Soonest.{soonest}
 use Rattle.hold_vparse.specs.Nets.{nets}
 use Rattle.hold_vparse.specs.DoubleNames.{doubled}

@@ -8,8 +8,8 @@
 use Rattle.std.specs.Prelude.{◌≡◌, ◌⊎◌, ◌++◌, ℕ, List, [], ◌∷◌, length, map, slice_get, Some}
 use Rattle.std.specs.List.{AllByRecursion}
 use Rattle.hold_netlist.specs.NameTable.{names_of}
+use Rattle.hold_vsyntax.specs.Number.{number_of, IsPlain}
 use Rattle.hold_vparse.specs.Index.{IsIndex}
-use Rattle.hold_vparse.specs.Number.{number_of, IsPlain}
 
 pub record OneEach (numbers : List ℕ) : Type 0 where
   pub apart : (i j n : ℕ) → slice_get numbers i ≡ Some n → slice_get numbers j ≡ Some n → i ≡ j

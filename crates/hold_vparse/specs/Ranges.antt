@@ -10,9 +10,9 @@ use Rattle.std.specs.Prelude.{ℕ, List, ◌++◌, map, not, slice_get, unwrap_o
 use Rattle.std.specs.List.{filter}
 use Rattle.hold_netlist.specs.Names.{is_among}
 use Rattle.hold_netlist.specs.declared.wire.Wire.{Wire}
-use Rattle.hold_vparse.specs.declared.tree.Module.{Module}
-use Rattle.hold_vparse.specs.declared.tree.NextPort.{NextPort}
-use Rattle.hold_vparse.specs.declared.tree.NextPort.TheVariants.{Declared, Alike}
+use Rattle.hold_vsyntax.specs.declared.tree.Module.{Module}
+use Rattle.hold_vsyntax.specs.declared.tree.NextPort.{NextPort}
+use Rattle.hold_vsyntax.specs.declared.tree.NextPort.TheVariants.{Declared, Alike}
 use Rattle.hold_vparse.specs.Lines.{bounds_of, PortLine, WireLine, header_lines, body_lines, wire_lines}
 use Rattle.hold_vparse.specs.Nets.{nets}
 

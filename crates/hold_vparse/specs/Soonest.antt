@@ -1,7 +1,7 @@
 -- sooner i found: whichever stands first in the text.
 -- soonest is: the one of these that stands first in the text; None where there is none.
 use Rattle.std.specs.Prelude.{List, [], ◌∷◌, nat_lt, if◌then◌else◌, Option, Some, None}
-use Rattle.hold_vparse.specs.declared.tree.Ident.{Ident}
+use Rattle.hold_vsyntax.specs.declared.tree.Ident.{Ident}
 
 abbrev pub sooner : Ident → Option Ident → Ident
 sooner i None = i

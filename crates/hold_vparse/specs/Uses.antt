@@ -6,9 +6,9 @@ use Rattle.std.specs.Prelude.{ℕ, Bool, true, false, not, List, [], ◌∷◌, 
 use Rattle.std.specs.List.{filter}
 use Rattle.hold_netlist.specs.declared.wire.Wire.{Wire}
 use Rattle.hold_netlist.specs.Names.{is_among}
+use Rattle.hold_vsyntax.specs.declared.tree.Ident.{Ident}
 use Rattle.hold_vparse.specs.Lines.{PortLine, WireLine}
 use Rattle.hold_vparse.specs.Nets.{wire, first_uses}
-use Rattle.hold_vparse.specs.declared.tree.Ident.{Ident}
 use Rattle.hold_vparse.specs.DoubleNames.{Mention, Role, UsesNet}
 
 abbrev pub is_use : Role → Bool

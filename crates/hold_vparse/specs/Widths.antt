@@ -3,9 +3,9 @@
 --   where there is one.
 use Rattle.std.specs.Prelude.{ℕ, List, Option, Some, None}
 use Rattle.hold_netlist.specs.Bits.{width_of_range}
+use Rattle.hold_vsyntax.specs.declared.tree.Range.{Range}
 use Rattle.hold_vparse.specs.declared.selection.Width.{Width}
 use Rattle.hold_vparse.specs.declared.selection.Width.TheVariants.{One, Part, Net}
-use Rattle.hold_vparse.specs.declared.tree.Range.{Range}
 use Rattle.hold_vparse.specs.Lines.{range_bounds}
 use Rattle.hold_vparse.specs.Ranges.{line_range}
 

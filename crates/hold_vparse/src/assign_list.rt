@@ -6,9 +6,9 @@ ghost use Rattle.hold_vparse.specs.Flat.{targets};
 
 use crate::inst_list::constant_source;
 use crate::layout::{Layout, Span};
-use crate::tree::{Assignment, Right};
 use hold_base::{Memory, NetNo};
 use hold_netlist::{Assign, Source};
+use hold_vsyntax::tree::{Assignment, Right};
 use std::alloc::Global;
 
 /// The most bits that a netlist may assign.

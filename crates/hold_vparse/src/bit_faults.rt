@@ -1,7 +1,7 @@
 ghost use Rattle.std.specs.Prelude.{◌≡◌, ◌||◌, flat_map, Some};
-ghost use Rattle.hold_vparse.specs.declared.tree.Connection.{Connection as Connected};
+ghost use Rattle.hold_vsyntax.specs.declared.tree.Connection.{Connection as Connected};
+ghost use Rattle.hold_vsyntax.specs.declared.tree.Selected.TheVariants.{Whole};
 ghost use Rattle.hold_vparse.specs.BitFaults.{reach, width, differ, is_missing_part, part_width, right_width, misfit_right, misfit_left, misfit_assignment, misfit_tied, misfit_named};
-ghost use Rattle.hold_vparse.specs.declared.tree.Selected.TheVariants.{Whole};
 ghost use Rattle.hold_vparse.specs.Flat.{targets, seen_instances};
 ghost use Rattle.hold_vparse.specs.Found.{found_ident};
 ghost use Rattle.hold_vparse.specs.Soonest.{soonest};
@@ -10,7 +10,7 @@ ghost use Rattle.hold_vparse.specs.Widths.{seen_widths};
 use crate::ranged_nets::RangedNets;
 use crate::selection::{Width, are_different, has_bit, is_missing_of, width_of};
 use crate::soonest::soonest_of;
-use crate::tree::{Assignment, Connection, Ident, Instance, Part, Right, Tied};
+use hold_vsyntax::tree::{Assignment, Connection, Ident, Instance, Part, Right, Tied};
 
 /// How many bits the right side of an assignment has.
 fn width_of_right<'a>(nets: &RangedNets<'_>, right: &'a Right) -> Option<Width<'a>>

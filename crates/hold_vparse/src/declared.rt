@@ -1,14 +1,14 @@
 ghost use Rattle.std.specs.Prelude.{IfOk};
+ghost use Rattle.hold_vsyntax.specs.Named.{IsNamedModule};
+ghost use Rattle.hold_vsyntax.specs.Answers.{Faults};
 ghost use Rattle.hold_vparse.specs.DeclaredNetlist.{IsDeclared, IsFirstNameFault};
-ghost use Rattle.hold_vparse.specs.Named.{IsNamedModule};
-ghost use Rattle.hold_vparse.specs.Reads.{Faults};
 
 use crate::fault::VerilogFault;
 use crate::netlist::netlist_of;
 use crate::tables::{parts_in, tables_of};
-use crate::tree::Module;
 use hold_base::Stop;
 use hold_netlist::Netlist;
+use hold_vsyntax::tree::Module;
 use std::alloc::Global;
 
 /// The netlist that a module declares, or the first fault in its names and limits.

@@ -10,8 +10,8 @@ use crate::mentions::Mention;
 use crate::parts::Parts;
 use crate::pin_faults::repeated_in_instances;
 use crate::soonest::soonest_of;
-use crate::tree::Ident;
 use hold_base::Memory;
+use hold_vsyntax::tree::Ident;
 use std::alloc::Global;
 
 /// The identifier of a mention in a role that is barred to its name.

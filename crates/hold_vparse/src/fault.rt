@@ -1,5 +1,6 @@
 use hold_base::{Name, What};
 use hold_vlex::LexFault;
+use hold_vsyntax::SyntaxFault;
 use thiserror::Error;
 
 /// Why a text has no netlist. Places count bytes from 0. The variants stand in the order in which they are
@@ -29,6 +30,17 @@ pub enum VerilogFault {
     Limit(What),
 }
 
-/// A piece that can't stand where it stands.
-#[derive(Clone, Copy, Debug)]
-pub struct BadPiece;
+impl From<SyntaxFault> for VerilogFault {
+    ghost use Rattle.std.specs.Prelude.{◌≡◌};
+    ghost use Rattle.hold_vparse.specs.Reads.{verilog_fault};
+
+    ghost from_gives = { λ fault e. e ≡ verilog_fault fault };
+
+    fn from(fault: SyntaxFault) -> VerilogFault {
+        match fault {
+            SyntaxFault::Lex(fault) => VerilogFault::Lex(fault),
+            SyntaxFault::Syntax(at) => VerilogFault::Syntax(at),
+            SyntaxFault::LeftOut(word, at) => VerilogFault::LeftOut(word, at),
+        }
+    }
+}

@@ -1,50 +1,83 @@
-ghost use Rattle.hold_vparse.specs.Gives.{Gives};
-ghost use Rattle.hold_vparse.specs.Reading.{ident_at, idents_at, more_of, several_at, with_front};
-ghost use Rattle.hold_vparse.specs.Symbols.{symbols};
+ghost use Rattle.std.specs.Prelude.{◌≡◌, ◌++◌, map, OnOk, IfOk};
+ghost use Rattle.hold_vparse.specs.Flat.{targets, seen_ports, seen_wires};
+ghost use Rattle.hold_vparse.specs.Lines.{PortLine, WireLine, header_names, header_lines};
 
-use crate::fault::BadPiece;
-use crate::mark::Mark;
-use crate::reader::Reader;
-use crate::steps::{ident, takes};
-use crate::tree::{Ident, Several};
-use hold_base::{List, Stop};
+use crate::lines::{NamedWire, Port, header_lines_in, header_names_in};
+use hold_base::Memory;
+use hold_vsyntax::tree::{Header, Ident};
 use std::alloc::Global;
 
-/// Adds to the list the identifiers that follow, each after a comma.
-fn more_idents(
-    alloc: Global,
-    reader: &mut Reader<'_>,
-    mut list: Vec<Ident>,
-) -> Result<List<Ident>, Stop<BadPiece>>
-    ensures { Gives result (with_front list.items (more_of ident_at (symbols reader.old))) (symbols reader.new) }
+/// Puts identifiers behind these.
+fn add_names<'a>(list: &mut Vec<&'a Ident>, names: &'a [Ident]) -> Result<(), Memory>
+    ensures { OnOk result (targets list.new.items ≡ targets list.old.items ++ names.now) }
 {
-    while takes(reader, Mark::Comma) {
-        let one = ident(alloc, reader)?;
-        list.push(one)?;
+    for name in names {
+        list.push(name)?;
     }
-    Ok(List::from_vec(list))
+    Ok(())
 }
 
-/// Reads one identifier or more into a list, with commas between them.
-#[tactic(auto, unfolding(crate::specs::Reading::idents_at))]
-pub fn idents(alloc: Global, reader: &mut Reader<'_>) -> Result<List<Ident>, Stop<BadPiece>>
-    ensures { Gives result (idents_at (symbols reader.old)) (symbols reader.new) }
+/// Puts the identifiers that lines of ports declare behind these.
+fn add_port_names<'a>(list: &mut Vec<&'a Ident>, lines: &[Port<'a>]) -> Result<(), Memory>
+    ensures { OnOk result (targets list.new.items ≡ targets list.old.items ++ map (λ (l : PortLine). l.name) (seen_ports lines.now)) }
 {
-    let first = ident(alloc, reader)?;
+    for line in lines {
+        list.push(line.name)?;
+    }
+    Ok(())
+}
+
+/// Puts the identifiers that lines of wires declare behind these.
+fn add_wire_names<'a>(list: &mut Vec<&'a Ident>, lines: &[NamedWire<'a>]) -> Result<(), Memory>
+    ensures { OnOk result (targets list.new.items ≡ targets list.old.items ++ map (λ (l : WireLine). l.name) (seen_wires lines.now)) }
+{
+    for line in lines {
+        list.push(line.name)?;
+    }
+    Ok(())
+}
+
+/// References to each of these identifiers.
+pub(crate) fn references(alloc: Global, names: &[Ident]) -> Result<Vec<&Ident>, Memory>
+    ensures { IfOk result (λ list. targets list.items ≡ names.now) }
+{
     let mut list = Vec::new(alloc);
-    list.push(first)?;
-    more_idents(alloc, reader, list)
+    add_names(&mut list, names)?;
+    Ok(list)
 }
 
-/// Reads one identifier or more, with commas between them.
-#[tactic(auto, using(crate::proofs::ReadingLemmas::with_front_nothing))]
-pub fn several_idents(
-    alloc: Global,
-    reader: &mut Reader<'_>,
-) -> Result<Several<Ident>, Stop<BadPiece>>
-    ensures { Gives result (several_at ident_at (symbols reader.old)) (symbols reader.new) }
+/// The identifiers that these lines declare.
+pub(crate) fn port_idents<'a>(alloc: Global, lines: &[Port<'a>]) -> Result<Vec<&'a Ident>, Memory>
+    ensures { IfOk result (λ list. targets list.items ≡ map (λ (l : PortLine). l.name) (seen_ports lines.now)) }
 {
-    let first = ident(alloc, reader)?;
-    let rest = more_idents(alloc, reader, Vec::new(alloc))?;
-    Ok(Several { first, rest })
+    let mut list = Vec::new(alloc);
+    add_port_names(&mut list, lines)?;
+    Ok(list)
+}
+
+/// The identifiers of the ports in the header.
+pub(crate) fn header_idents<'a>(alloc: Global, header: &'a Header) -> Result<Vec<&'a Ident>, Memory>
+    ensures { IfOk result (λ list. targets list.items ≡ header_names header.now ++ map (λ (l : PortLine). l.name) (header_lines header.now)) }
+{
+    let lines = header_lines_in(alloc, header)?;
+    let mut list = Vec::new(alloc);
+    add_names(&mut list, header_names_in(header))?;
+    add_port_names(&mut list, &lines)?;
+    Ok(list)
+}
+
+/// The identifiers that are declared as nets: in the header, by lines of ports, and by lines of wires.
+pub(crate) fn declared_idents<'a>(
+    alloc: Global,
+    header: &'a Header,
+    ports: &[Port<'a>],
+    wires: &[NamedWire<'a>],
+) -> Result<Vec<&'a Ident>, Memory>
+    ensures { IfOk result (λ list. targets list.items ≡ header_names header.now ++ (map (λ (l : PortLine). l.name) (seen_ports ports.now) ++ map (λ (l : WireLine). l.name) (seen_wires wires.now))) }
+{
+    let mut list = Vec::new(alloc);
+    add_names(&mut list, header_names_in(header))?;
+    add_port_names(&mut list, ports)?;
+    add_wire_names(&mut list, wires)?;
+    Ok(list)
 }

@@ -4,9 +4,9 @@ ghost use Rattle.hold_vparse.specs.Flat.{targets};
 ghost use Rattle.hold_vparse.specs.Index.{place_of, IsIndex};
 ghost use Rattle.hold_vparse.specs.Nets.{names};
 
-use crate::tree::Ident;
 use hold_base::{Memory, Name};
 use hold_netlist::NameTable;
+use hold_vsyntax::tree::Ident;
 use std::alloc::Global;
 use std::marker::Model;
 
@@ -19,7 +19,7 @@ pub(crate) struct Index<'a> {
 
 impl<'a> Model for Index<'a> {
     ghost use Rattle.std.specs.Prelude.{List};
-    ghost use Rattle.hold_vparse.specs.declared.tree.Ident.{Ident as Item};
+    ghost use Rattle.hold_vsyntax.specs.declared.tree.Ident.{Ident as Item};
     ghost use Rattle.hold_vparse.specs.Flat.{targets};
     ghost use Rattle.hold_vparse.specs.Index.{IsIndex};
     ghost use Rattle.hold_vparse.specs.Nets.{names};

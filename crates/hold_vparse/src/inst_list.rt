@@ -1,13 +1,13 @@
 ghost use Rattle.std.specs.Prelude.{◌≡◌, [], map, flat_map, IfOk};
-ghost use Rattle.hold_vparse.specs.declared.tree.Connection.{Connection as Connected};
+ghost use Rattle.hold_vsyntax.specs.declared.tree.Connection.{Connection as Connected};
 ghost use Rattle.hold_vparse.specs.BitFaults.{misfit_tied, misfit_instance, misfit_named};
 ghost use Rattle.hold_vparse.specs.Declares.{source, pin, inst, constant};
 ghost use Rattle.hold_vparse.specs.Flat.{seen_instances};
 
 use crate::layout::Layout;
-use crate::tree::{Connection, Ident, Instance, Tied};
 use hold_base::{List, Memory, NetNo};
 use hold_netlist::{Inst, Pin, Source};
+use hold_vsyntax::tree::{Connection, Ident, Instance, Tied};
 use std::alloc::Global;
 
 /// The source of a constant.

@@ -2,18 +2,18 @@ ghost use Rattle.std.specs.Prelude.{◌≡◌, ◌+◌, ◌-◌, ◌≤◌, true
 ghost use Rattle.std.specs.List.{range_with_len, list_any};
 ghost use Rattle.hold_netlist.specs.Bits.{bits_of, width_of_range};
 ghost use Rattle.hold_netlist.specs.WellFormed.{HasBoundsInLimit};
+ghost use Rattle.hold_vsyntax.specs.declared.tree.Selected.TheVariants.{Bit};
 ghost use Rattle.hold_vparse.specs.BitFaults.{reach, is_within, has_bits, is_missing, width, is_missing_part, part_width};
-ghost use Rattle.hold_vparse.specs.declared.tree.Selected.TheVariants.{Bit};
 ghost use Rattle.hold_vparse.specs.Declares.{first_bit, place_in, selected_bits, part_bits};
 ghost use Rattle.hold_vparse.specs.FirstBits.{first_bits};
 ghost use Rattle.hold_vparse.specs.Lines.{range_bounds};
 ghost use Rattle.hold_vparse.specs.NameFaults.{has_large_bound};
 
 use crate::nets::Nets;
-use crate::number::Number;
-use crate::tree::{Part, Range, Selected};
 use hold_base::{Memory, Name};
 use hold_netlist::Wire;
+use hold_vsyntax::number::Number;
+use hold_vsyntax::tree::{Part, Range, Selected};
 use std::alloc::Global;
 
 /// The bits of the nets: within the limit, and numbered from the first wire on.

@@ -2,9 +2,9 @@ ghost use Rattle.std.specs.Prelude.{◌≡◌, ◌++◌, OnOk, IfOk};
 ghost use Rattle.hold_vparse.specs.Flat.{targets, seen_range, seen_ports, seen_wires, seen_instances};
 ghost use Rattle.hold_vparse.specs.Lines.{bounds_of, header_names, header_lines, next_lines, body_lines, lines_of_item, wire_lines, wires_of_item, assignments, assignments_of_item, instances, instances_of_item};
 
-use crate::tree::{Assignment, Header, HeaderPort, Ident, Instance, Item, NextPort, Range};
 use hold_base::Memory;
 use hold_netlist::Direction;
+use hold_vsyntax::tree::{Assignment, Header, HeaderPort, Ident, Instance, Item, NextPort, Range};
 use std::alloc::Global;
 
 /// A port as a line of the text declares it.

@@ -4,9 +4,10 @@ ghost use Rattle.hold_vparse.specs.BitFaults.{is_within, runs_along, has_bits};
 ghost use Rattle.hold_vparse.specs.Bounds.{distance_of, is_falling};
 ghost use Rattle.hold_vparse.specs.Lines.{range_bounds};
 
-use crate::number::{Number, NumberTable, distance, has_same_sums, is_at_most};
-use crate::tree::Range;
+use crate::number_table::NumberTable;
 use hold_base::Memory;
+use hold_vsyntax::number::{Number, distance, has_same_sums, is_at_most};
+use hold_vsyntax::tree::Range;
 use std::alloc::Global;
 
 /// The classes of a range's bounds, and of their distance.

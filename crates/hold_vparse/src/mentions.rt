@@ -1,12 +1,13 @@
 ghost use Rattle.std.specs.Prelude.{◌≡◌, ◌++◌, ◌∷◌, map, flat_map, OnOk, IfOk};
-ghost use Rattle.hold_vparse.specs.declared.tree.Assignment.{Assignment as Assigned};
-ghost use Rattle.hold_vparse.specs.Flat.{seen_ident, seen_mentions};
-ghost use Rattle.hold_vparse.specs.DoubleNames.{mention, UsesNet, mentions, mentions_of_item, mentions_of_instance};
+ghost use Rattle.hold_vsyntax.specs.declared.tree.Assignment.{Assignment as Assigned};
+ghost use Rattle.hold_vparse.specs.Flat.{seen_ident, seen_ports, seen_mentions};
+ghost use Rattle.hold_vparse.specs.DoubleNames.{mention, DeclaresPort, UsesNet, mentions, mentions_of_item, mentions_of_instance};
+ghost use Rattle.hold_vparse.specs.Lines.{PortLine};
 ghost use Rattle.hold_vparse.specs.Nets.{used_in_tied};
 
-use crate::lines::{header_lines_in, header_names_in};
-use crate::tree::{Assignment, Ident, Instance, Item, Module, Tied};
+use crate::lines::{Port, header_lines_in, header_names_in};
 use hold_base::Memory;
+use hold_vsyntax::tree::{Assignment, Ident, Instance, Item, Module, Tied};
 use std::alloc::Global;
 
 /// What a place in the text does to the name that stands there.
@@ -84,7 +85,17 @@ fn add_instances<'a>(
 }
 
 /// Puts names in one role behind these.
-fn add_names<'a>(
+fn add_names<'a>(list: &mut Vec<Mention<'a>>, role: Role, names: &'a [Ident]) -> Result<(), Memory>
+    ensures { OnOk result (seen_mentions list.new.items ≡ seen_mentions list.old.items ++ map (mention role) names.now) }
+{
+    for name in names {
+        list.push(Mention { role, name })?;
+    }
+    Ok(())
+}
+
+/// Puts one or more names in one role behind these.
+fn add_several_names<'a>(
     list: &mut Vec<Mention<'a>>,
     role: Role,
     first: &'a Ident,
@@ -93,8 +104,18 @@ fn add_names<'a>(
     ensures { OnOk result (seen_mentions list.new.items ≡ seen_mentions list.old.items ++ map (mention role) (first.now ∷ rest.now)) }
 {
     list.push(Mention { role, name: first })?;
-    for name in rest {
-        list.push(Mention { role, name })?;
+    add_names(list, role, rest)
+}
+
+/// Puts the ports that a header declares behind these.
+fn add_declared_ports<'a>(list: &mut Vec<Mention<'a>>, lines: &[Port<'a>]) -> Result<(), Memory>
+    ensures { OnOk result (seen_mentions list.new.items ≡ seen_mentions list.old.items ++ map (λ (p : PortLine). mention DeclaresPort p.name) (seen_ports lines.now)) }
+{
+    for line in lines {
+        list.push(Mention {
+            role: Role::DeclaresPort,
+            name: line.name,
+        })?;
     }
     Ok(())
 }
@@ -128,7 +149,7 @@ fn add_item<'a>(list: &mut Vec<Mention<'a>>, item: &'a Item) -> Result<(), Memor
     match item {
         Item::Ports(ports) => {
             let names = &ports.names;
-            add_names(
+            add_several_names(
                 list,
                 Role::GivesDirection,
                 &names.first,
@@ -137,7 +158,7 @@ fn add_item<'a>(list: &mut Vec<Mention<'a>>, item: &'a Item) -> Result<(), Memor
         }
         Item::Wires(wires) => {
             let names = &wires.names;
-            add_names(
+            add_several_names(
                 list,
                 Role::DeclaresWire,
                 &names.first,
@@ -153,26 +174,24 @@ fn add_item<'a>(list: &mut Vec<Mention<'a>>, item: &'a Item) -> Result<(), Memor
     }
 }
 
+/// Puts the mentions of statements behind these.
+fn add_items<'a>(list: &mut Vec<Mention<'a>>, items: &'a [Item]) -> Result<(), Memory>
+    ensures { OnOk result (seen_mentions list.new.items ≡ seen_mentions list.old.items ++ flat_map mentions_of_item items.now) }
+{
+    for item in items {
+        add_item(list, item)?;
+    }
+    Ok(())
+}
+
 /// All mentions, in the order of the text.
 pub(crate) fn mentions_in(alloc: Global, tree: &Module) -> Result<Vec<Mention<'_>>, Memory>
     ensures { IfOk result (λ list. seen_mentions list.items ≡ mentions tree.now) }
 {
     let lines = header_lines_in(alloc, &tree.header)?;
     let mut list = Vec::new(alloc);
-    for name in header_names_in(&tree.header) {
-        list.push(Mention {
-            role: Role::ListsPort,
-            name,
-        })?;
-    }
-    for line in &lines {
-        list.push(Mention {
-            role: Role::DeclaresPort,
-            name: line.name,
-        })?;
-    }
-    for item in tree.items.as_slice() {
-        add_item(&mut list, item)?;
-    }
+    add_names(&mut list, Role::ListsPort, header_names_in(&tree.header))?;
+    add_declared_ports(&mut list, &lines)?;
+    add_items(&mut list, tree.items.as_slice())?;
     Ok(list)
 }

@@ -13,8 +13,8 @@ use crate::parts::Parts;
 use crate::port_faults::{undirected_ident, unlike_ident, unlisted_ident};
 use crate::ranged_nets::RangedNets;
 use crate::soonest::soonest_of;
-use crate::tree::Ident;
 use crate::wire_list::has_large_bounds;
+use hold_vsyntax::tree::Ident;
 
 /// The first identifier at which a port is declared otherwise than it may.
 pub(crate) fn misdeclared_ident<'a>(parts: &Parts<'a>) -> Option<&'a Ident>

@@ -1,5 +1,5 @@
 ghost use Rattle.std.specs.Prelude.{◌≡◌, ◌++◌, ◌∷◌, [], map, length, OnOk, IfOk};
-ghost use Rattle.hold_vparse.specs.declared.tree.Ident.{Ident as Named};
+ghost use Rattle.hold_vsyntax.specs.declared.tree.Ident.{Ident as Named};
 ghost use Rattle.hold_vparse.specs.Flat.{seen_ports, seen_wires};
 ghost use Rattle.hold_vparse.specs.Lines.{as_declared, line_of, ports_of, header_lines, body_lines, wire_lines};
 ghost use Rattle.hold_vparse.specs.Nets.{names, port_idents, nets as nets_of};
@@ -12,8 +12,8 @@ use crate::ports::Ports;
 use crate::range_places::{port_places, wire_places};
 use crate::range_table::RangeTable;
 use crate::ranges::Ranges;
-use crate::tree::{Header, Ident, Module};
 use hold_base::Memory;
+use hold_vsyntax::tree::{Header, Ident, Module};
 use std::alloc::Global;
 
 /// Adds a net for the port of this name, with the range of its first line.

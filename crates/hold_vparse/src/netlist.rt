@@ -4,12 +4,12 @@ ghost use Rattle.hold_netlist.specs.Design.{design};
 ghost use Rattle.hold_netlist.specs.Doubles.{first_double_name};
 ghost use Rattle.hold_netlist.specs.Limits.{first_passed_limit};
 ghost use Rattle.hold_netlist.specs.WellFormed.{IsWellFormed};
+ghost use Rattle.hold_vsyntax.specs.Named.{IsNamedModule};
+ghost use Rattle.hold_vsyntax.specs.Answers.{Faults, StopsBy};
 ghost use Rattle.hold_vparse.specs.Clear.{IsClear};
 ghost use Rattle.hold_vparse.specs.DeclaredNetlist.{IsDeclared, IsFirstNameFault};
 ghost use Rattle.hold_vparse.specs.DesignWith.{design_with, insts_of, assigns_of, IsLimit};
-ghost use Rattle.hold_vparse.specs.Named.{IsNamedModule};
 ghost use Rattle.hold_vparse.specs.Nets.{nets as nets_of};
-ghost use Rattle.hold_vparse.specs.Reads.{Faults, StopsBy};
 
 use crate::assign_list::{assign_list, has_too_many_assigns};
 use crate::fault::VerilogFault;

@@ -5,8 +5,8 @@ ghost use Rattle.hold_vparse.specs.Index.{place_of};
 
 use crate::index::Index;
 use crate::lines::NamedWire;
-use crate::tree::Ident;
 use hold_base::{Memory, Name};
+use hold_vsyntax::tree::Ident;
 use std::alloc::Global;
 use std::marker::Model;
 

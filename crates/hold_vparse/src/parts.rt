@@ -5,15 +5,16 @@ ghost use Rattle.hold_vparse.specs.Lines.{header_names, header_lines, body_lines
 ghost use Rattle.hold_vparse.specs.Nets.{names, port_idents, declared_names, nets as nets_of};
 ghost use Rattle.hold_vparse.specs.Ranges.{ranges_of};
 
+use crate::idents::{declared_idents, header_idents, references};
 use crate::index::Index;
 use crate::lines::{NamedWire, Port, add_body_lines, header_names_in, port_lines_in};
 use crate::mentions::Mention;
 use crate::nets::Nets;
-use crate::ports::{Ports, header_idents, ports_of_header};
+use crate::ports::{Ports, ports_of_header};
 use crate::ranges::Ranges;
-use crate::tree::{Assignment, Ident, Instance, Module};
-use crate::wires::{all_wires, declared_idents};
+use crate::wires::all_wires;
 use hold_base::Memory;
+use hold_vsyntax::tree::{Assignment, Ident, Instance, Module};
 use std::alloc::Global;
 
 /// The lists of what stands in a module, and the tables over them.
@@ -49,17 +50,6 @@ pub(crate) struct Parts<'a> {
     ghost all_ranges: { ranges.now ≡ ranges_of tree.now },
     ghost all_assignments: { targets assignments.now ≡ assignments_of tree.now.items },
     ghost all_instances: { seen_instances instances.now ≡ instances_of tree.now.items },
-}
-
-/// References to these identifiers.
-fn references(alloc: Global, idents: &[Ident]) -> Result<Vec<&Ident>, Memory>
-    ensures { IfOk result (λ list. targets list.items ≡ idents.now) }
-{
-    let mut list = Vec::new(alloc);
-    for ident in idents {
-        list.push(ident)?;
-    }
-    Ok(list)
 }
 
 /// The plain list of ports.

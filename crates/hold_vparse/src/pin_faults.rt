@@ -7,9 +7,9 @@ ghost use Rattle.hold_vparse.specs.Found.{found_ident};
 ghost use Rattle.hold_vparse.specs.Soonest.{soonest};
 
 use crate::soonest::soonest_of;
-use crate::tree::{Connection, Ident, Instance};
 use hold_base::Memory;
 use hold_netlist::NameTable;
+use hold_vsyntax::tree::{Connection, Ident, Instance};
 use std::alloc::Global;
 
 /// This pin, where its name is among those seen; else its name is put there. The numbers in the table mean

@@ -1,7 +1,7 @@
 ghost use Rattle.std.specs.Prelude.{◌≡◌, [], ◌∷◌, map, flat_map, not, is_none, if◌then◌else◌};
 ghost use Rattle.std.specs.List.{filter};
 ghost use Rattle.hold_netlist.specs.Names.{is_among};
-ghost use Rattle.hold_vparse.specs.declared.tree.Ident.{Ident as Named};
+ghost use Rattle.hold_vsyntax.specs.declared.tree.Ident.{Ident as Named};
 ghost use Rattle.hold_vparse.specs.Flat.{seen_port, seen_ports, seen_wire, seen_wires, seen_range};
 ghost use Rattle.hold_vparse.specs.Found.{found_ident};
 ghost use Rattle.hold_vparse.specs.Lines.{PortLine, WireLine, line_of};
@@ -15,7 +15,7 @@ use crate::lines::{NamedWire, Port};
 use crate::ports::Ports;
 use crate::ranges::Ranges;
 use crate::soonest::soonest_of;
-use crate::tree::Ident;
+use hold_vsyntax::tree::Ident;
 
 /// This port, where no line gives it a direction.
 fn undirected_port<'a>(name: &'a Ident, lines: &Ports<'a>) -> Option<&'a Ident>

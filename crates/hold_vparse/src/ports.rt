@@ -1,15 +1,16 @@
-ghost use Rattle.std.specs.Prelude.{◌≡◌, ◌++◌, map, slice_get, IfOk};
-ghost use Rattle.hold_vparse.specs.declared.tree.Ident.{Ident as Named};
-ghost use Rattle.hold_vparse.specs.Flat.{targets, seen_port, seen_ports, seen_found};
+ghost use Rattle.std.specs.Prelude.{◌≡◌, map, slice_get, IfOk};
+ghost use Rattle.hold_vsyntax.specs.declared.tree.Ident.{Ident as Named};
+ghost use Rattle.hold_vparse.specs.Flat.{seen_port, seen_ports, seen_found};
 ghost use Rattle.hold_vparse.specs.Index.{place_of};
-ghost use Rattle.hold_vparse.specs.Lines.{PortLine, line_of, as_declared, ports_in, header_names, header_lines};
+ghost use Rattle.hold_vparse.specs.Lines.{PortLine, line_of, as_declared, ports_in};
 ghost use Rattle.hold_vparse.specs.Nets.{names};
 
+use crate::idents::port_idents;
 use crate::index::Index;
-use crate::lines::{Port, header_lines_in, header_names_in};
-use crate::tree::{Header, Ident};
+use crate::lines::{Port, header_lines_in};
 use hold_base::{Memory, Name};
 use hold_netlist::Direction;
+use hold_vsyntax::tree::{Header, Ident};
 use std::alloc::Global;
 use std::marker::Model;
 
@@ -32,23 +33,12 @@ impl<'a> Model for Ports<'a> {
     ghost invariant = { λ p. p.index ≡ map (λ (l : Line). l.name) (seen_ports p.lines.items) };
 }
 
-/// The identifiers that these lines declare.
-fn declared_idents<'a>(alloc: Global, lines: &[Port<'a>]) -> Result<Vec<&'a Ident>, Memory>
-    ensures { IfOk result (λ list. targets list.items ≡ map (λ (l : PortLine). l.name) (seen_ports lines.now)) }
-{
-    let mut list = Vec::new(alloc);
-    for line in lines {
-        list.push(line.name)?;
-    }
-    Ok(list)
-}
-
 impl<'a> Ports<'a> {
     /// Takes these lines over.
     pub(crate) fn of(alloc: Global, lines: Vec<Port<'a>>) -> Result<Ports<'a>, Memory>
         ensures { IfOk result (λ ports. ports ≡ seen_ports lines.entry.items) }
     {
-        let idents = declared_idents(alloc, &lines)?;
+        let idents = port_idents(alloc, &lines)?;
         let index = Index::of(alloc, idents)?;
         Ok(Ports { lines, index })
     }
@@ -131,19 +121,4 @@ pub(crate) fn ports_of_header<'a>(
         Header::Plain(names) => plain_ports(alloc, names.as_slice(), lines),
         Header::Declared(_, _) => header_lines_in(alloc, header),
     }
-}
-
-/// The identifiers of the ports in the header.
-pub(crate) fn header_idents<'a>(alloc: Global, header: &'a Header) -> Result<Vec<&'a Ident>, Memory>
-    ensures { IfOk result (λ list. targets list.items ≡ header_names header.now ++ map (λ (l : PortLine). l.name) (header_lines header.now)) }
-{
-    let lines = header_lines_in(alloc, header)?;
-    let mut list = Vec::new(alloc);
-    for name in header_names_in(header) {
-        list.push(name)?;
-    }
-    for line in &lines {
-        list.push(line.name)?;
-    }
-    Ok(list)
 }

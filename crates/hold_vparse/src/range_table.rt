@@ -9,9 +9,9 @@ ghost use Rattle.hold_vparse.specs.Measured.{seen_measured};
 ghost use Rattle.hold_vparse.specs.PortFaults.{same_range};
 
 use crate::measured::Measured;
-use crate::number::NumberTable;
-use crate::tree::Range;
+use crate::number_table::NumberTable;
 use hold_base::Memory;
+use hold_vsyntax::tree::Range;
 use std::alloc::Global;
 use std::marker::Model;
 

@@ -7,10 +7,10 @@ ghost use Rattle.hold_vparse.specs.Ranges.{range_lists, with_nets, line_range};
 ghost use Rattle.hold_vparse.specs.Widths.{bounds_width};
 
 use crate::measured::Measured;
-use crate::number::are_equal;
 use crate::range_table::RangeTable;
-use crate::tree::Range;
 use hold_base::Memory;
+use hold_vsyntax::number::are_equal;
+use hold_vsyntax::tree::Range;
 use std::alloc::Global;
 use std::marker::Model;
 

@@ -1,13 +1,14 @@
-ghost use Rattle.std.specs.Prelude.{IfOk};
+ghost use Rattle.std.specs.Prelude.{◌≡◌, IfOk};
 ghost use Rattle.hold_netlist.specs.Design.{Design};
+ghost use Rattle.hold_vsyntax.specs.Answers.{Faults, Answers, AnswersFault};
 ghost use Rattle.hold_vparse.specs.declared.fault.VerilogFault.{VerilogFault as TheFault};
-ghost use Rattle.hold_vparse.specs.Reads.{Reads, IsFirstFault, Faults, Answers, AnswersFault};
+ghost use Rattle.hold_vparse.specs.Reads.{Reads, IsFirstFault};
 
 use crate::declared::declared;
 use crate::fault::VerilogFault;
-use crate::syntax::syntax_tree;
 use hold_base::Stop;
 use hold_netlist::Netlist;
+use hold_vsyntax::syntax_tree;
 use std::alloc::Global;
 
 /// Reads a text of structural Verilog, a profile of IEEE 1364-2005: one module of scalar and vector ports and wires,
@@ -34,6 +35,7 @@ fn netlist_of_text(alloc: Global, text: &[u8]) -> Result<Netlist, Stop<VerilogFa
 {
     match syntax_tree(alloc, text) {
         Ok(tree) => declared(alloc, &tree),
-        Err(stop) => Err(stop),
+        Err(Stop::Memory) => Err(Stop::Memory),
+        Err(Stop::Fault(fault)) => Err(Stop::Fault(VerilogFault::from(fault))),
     }
 }

@@ -1,7 +1,8 @@
 ghost use Rattle.std.specs.Prelude.{◌≡◌, [], false, IfOk, OnOk};
 ghost use Rattle.std.specs.List.{list_any};
 ghost use Rattle.std.specs.Option.{option_map};
-ghost use Rattle.hold_vparse.specs.declared.tree.Ident.{Ident as Named};
+ghost use Rattle.hold_vsyntax.specs.declared.tree.Ident.{Ident as Named};
+ghost use Rattle.hold_vsyntax.specs.Answers.{Faults};
 ghost use Rattle.hold_vparse.specs.BitFaults.{misfit};
 ghost use Rattle.hold_vparse.specs.Clear.{IsClear};
 ghost use Rattle.hold_vparse.specs.DeclaredNetlist.{IsFirstNameFault};
@@ -10,14 +11,13 @@ ghost use Rattle.hold_vparse.specs.Found.{found_ident};
 ghost use Rattle.hold_vparse.specs.NameFaults.{has_large_bound};
 ghost use Rattle.hold_vparse.specs.Nets.{nets as nets_of};
 ghost use Rattle.hold_vparse.specs.PortFaults.{misdeclared};
-ghost use Rattle.hold_vparse.specs.Reads.{Faults};
 
 use crate::double_names::doubled;
 use crate::fault::VerilogFault;
 use crate::name_faults::{has_passed_bound, misdeclared_ident, misfit_ident};
 use crate::parts::Parts;
-use crate::tree::Ident;
 use hold_base::{Memory, Name, Stop, What};
+use hold_vsyntax::tree::Ident;
 use std::alloc::Global;
 
 /// A copy of the identifier's name, where there is one.

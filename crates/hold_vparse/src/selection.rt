@@ -1,14 +1,14 @@
 ghost use Rattle.std.specs.Prelude.{◌≡◌, ◌==◌, not};
-ghost use Rattle.hold_vparse.specs.declared.tree.Selected.TheVariants.{Bit as BitAt};
+ghost use Rattle.hold_vsyntax.specs.declared.tree.Selected.TheVariants.{Bit as BitAt};
 ghost use Rattle.hold_vparse.specs.BitFaults.{is_missing, width, differ};
 ghost use Rattle.hold_vparse.specs.Measured.{seen_reach};
 ghost use Rattle.hold_vparse.specs.Index.{at_place};
 ghost use Rattle.hold_vparse.specs.Widths.{seen_width, seen_widths, bounds_width};
 
 use crate::measured::{Measured, greater_first};
-use crate::number::{Number, are_equal, has_same_sums};
 use crate::ranges::Ranges;
-use crate::tree::{Range, Selected};
+use hold_vsyntax::number::{Number, are_equal, has_same_sums};
+use hold_vsyntax::tree::{Range, Selected};
 
 /// How many bits are meant.
 #[derive(Clone, Copy)]

@@ -1,7 +1,7 @@
 ghost use Rattle.std.specs.Prelude.{◌≡◌};
 ghost use Rattle.hold_vparse.specs.Found.{merged, found_ident};
 
-use crate::tree::Ident;
+use hold_vsyntax::tree::Ident;
 
 /// Whichever of two identifiers stands first in the text.
 pub(crate) fn soonest_of<'a>(found: Option<&'a Ident>, next: Option<&'a Ident>) -> Option<&'a Ident>

@@ -16,8 +16,8 @@ use crate::parts::{
 };
 use crate::ports::Ports;
 use crate::ranges::Ranges;
-use crate::tree::{Assignment, Ident, Instance, Module};
 use hold_base::Memory;
+use hold_vsyntax::tree::{Assignment, Ident, Instance, Module};
 use std::alloc::Global;
 
 /// The lists and tables of a module's ports.

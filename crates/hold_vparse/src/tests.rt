@@ -3,10 +3,10 @@
 mod answer;
 mod bits;
 mod double_names;
+mod forms;
 mod limits;
 mod long_bounds;
 mod nets;
 mod numbers;
 mod parts;
 mod ports;
-mod syntax;

@@ -5,10 +5,10 @@ ghost use Rattle.hold_vparse.specs.Flat.{seen_range, seen_ports, net_wire, net_w
 ghost use Rattle.hold_vparse.specs.NameFaults.{is_large_range, has_large_bound};
 
 use crate::lines::{NamedWire, Port};
-use crate::number::Number;
-use crate::tree::Range;
 use hold_base::Memory;
 use hold_netlist::{Port as NetPort, Wire};
+use hold_vsyntax::number::Number;
+use hold_vsyntax::tree::Range;
 use std::alloc::Global;
 
 /// The greatest bound of a range.

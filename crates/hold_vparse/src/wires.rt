@@ -2,41 +2,18 @@ ghost use Rattle.std.specs.Prelude.{◌≡◌, ◌++◌, ◌∷◌, [], map, not
 ghost use Rattle.std.specs.List.{filter};
 ghost use Rattle.hold_netlist.specs.Names.{is_among};
 ghost use Rattle.hold_netlist.specs.NameTable.{names_of};
-ghost use Rattle.hold_vparse.specs.declared.tree.Ident.{Ident as Named};
-ghost use Rattle.hold_vparse.specs.Flat.{targets, seen_ports, seen_wires, seen_mention, seen_mentions, net_wires};
-ghost use Rattle.hold_vparse.specs.Lines.{PortLine, WireLine, header_names};
+ghost use Rattle.hold_vsyntax.specs.declared.tree.Ident.{Ident as Named};
+ghost use Rattle.hold_vparse.specs.Flat.{seen_ports, seen_wires, seen_mention, seen_mentions, net_wires};
+ghost use Rattle.hold_vparse.specs.Lines.{PortLine, WireLine};
 ghost use Rattle.hold_vparse.specs.Nets.{names, wire, first_uses};
 ghost use Rattle.hold_vparse.specs.Uses.{is_use, used, wires_of};
 
 use crate::index::Index;
-use crate::lines::{NamedWire, Port, header_names_in};
+use crate::lines::{NamedWire, Port};
 use crate::mentions::{Mention, Role};
-use crate::tree::{Header, Ident};
 use hold_base::Memory;
 use hold_netlist::NameTable;
 use std::alloc::Global;
-
-/// The identifiers that are declared as nets: in the header, by lines of ports, and by lines of wires.
-pub(crate) fn declared_idents<'a>(
-    alloc: Global,
-    header: &'a Header,
-    ports: &[Port<'a>],
-    wires: &[NamedWire<'a>],
-) -> Result<Vec<&'a Ident>, Memory>
-    ensures { IfOk result (λ list. targets list.items ≡ header_names header.now ++ (map (λ (l : PortLine). l.name) (seen_ports ports.now) ++ map (λ (l : WireLine). l.name) (seen_wires wires.now))) }
-{
-    let mut list = Vec::new(alloc);
-    for name in header_names_in(header) {
-        list.push(name)?;
-    }
-    for port in ports {
-        list.push(port.name)?;
-    }
-    for wire in wires {
-        list.push(wire.name)?;
-    }
-    Ok(list)
-}
 
 /// Puts the wires of the ports behind these.
 fn add_port_wires<'a>(list: &mut Vec<NamedWire<'a>>, ports: &[Port<'a>]) -> Result<(), Memory>

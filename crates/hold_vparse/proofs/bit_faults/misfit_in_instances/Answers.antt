@@ -1,7 +1,7 @@
 use Rattle.std.proofs.Common.{◌≡◌, ap, sym, ◌∙◌}
 use Rattle.std.specs.Prelude.{flat_map}
+use Rattle.hold_vsyntax.specs.declared.tree.Connection.{Connection}
 use Rattle.hold_vparse.specs.BitFaults.{misfit_tied, misfit_named}
-use Rattle.hold_vparse.specs.declared.tree.Connection.{Connection}
 use Rattle.hold_vparse.specs.Flat.{seen_instance, seen_instances}
 use Rattle.hold_vparse.specs.Found.{merged, found_ident}
 use Rattle.hold_vparse.specs.Soonest.{soonest}

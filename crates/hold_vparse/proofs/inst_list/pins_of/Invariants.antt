@@ -1,6 +1,6 @@
 use Rattle.std.proofs.Common.{◌≡◌, ◌++◌, [], drop, map}
 use Rattle.std.specs.Prelude.{flat_map}
-use Rattle.hold_vparse.specs.declared.tree.Connection.{Connection}
+use Rattle.hold_vsyntax.specs.declared.tree.Connection.{Connection}
 use Rattle.hold_vparse.specs.BitFaults.{misfit_tied}
 use Rattle.hold_vparse.specs.Declares.{pin}
 use Rattle.hold_vparse.proofs.inst_list.pins_of.Given as goal

@@ -1,7 +1,7 @@
-use Rattle.std.proofs.Common.{◌≡◌, ◌++◌, ◌∷◌, drop, map}
+use Rattle.std.proofs.Common.{◌≡◌, ◌++◌, drop, map}
 use Rattle.hold_vparse.specs.Flat.{seen_mentions}
 use Rattle.hold_vparse.specs.DoubleNames.{mention}
 use Rattle.hold_vparse.proofs.mentions.add_names.Given as goal
 
 abbrev pub invariant-loop-name : goal.invariant-loop-name
-invariant-loop-name l = seen_mentions l.list.items ++ map (mention l.role) (drop l.name-index l.rest) ≡ seen_mentions l.fn.list.items ++ map (mention l.role) (l.fn.first ∷ l.rest)
+invariant-loop-name l = seen_mentions l.list.items ++ map (mention l.role) (drop l.name-index l.names) ≡ seen_mentions l.fn.list.items ++ map (mention l.role) l.names

@@ -1,6 +1,6 @@
 use Rattle.std.proofs.Common.{◌∙◌, ap, is_none}
 use Rattle.std.specs.List.{filter}
-use Rattle.hold_vparse.specs.declared.tree.Ident.{Ident}
+use Rattle.hold_vsyntax.specs.declared.tree.Ident.{Ident}
 use Rattle.hold_vparse.specs.Flat.{seen_ports, seen_wires}
 use Rattle.hold_vparse.specs.Found.{found_ident}
 use Rattle.hold_vparse.specs.Lines.{line_of}

@@ -1,5 +1,5 @@
 use Rattle.std.proofs.Common.{◌∷◌, [], ap, ◌∙◌, drop, ◌+◌, map}
-use Rattle.hold_vparse.specs.declared.tree.Ident.{Ident}
+use Rattle.hold_vsyntax.specs.declared.tree.Ident.{Ident}
 use Rattle.hold_vparse.specs.Lines.{as_declared, line_of}
 use Rattle.hold_vparse.specs.Ranges.{port_ranges}
 use Rattle.std.proofs.Common.{refl}

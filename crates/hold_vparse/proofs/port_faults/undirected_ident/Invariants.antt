@@ -1,6 +1,6 @@
 use Rattle.std.proofs.Common.{◌≡◌, drop, is_none}
 use Rattle.std.specs.List.{filter}
-use Rattle.hold_vparse.specs.declared.tree.Ident.{Ident}
+use Rattle.hold_vsyntax.specs.declared.tree.Ident.{Ident}
 use Rattle.hold_vparse.specs.Found.{merged, found_ident}
 use Rattle.hold_vparse.specs.Lines.{line_of}
 use Rattle.hold_vparse.specs.Soonest.{soonest}

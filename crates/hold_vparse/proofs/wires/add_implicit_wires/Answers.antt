@@ -2,7 +2,7 @@ use Rattle.std.proofs.Common.{◌++◌, ◌∷◌, [], ap, sym, ◌∙◌, drop,
 use Rattle.std.specs.Prelude.{None}
 use Rattle.std.proofs.lemmas.List.{drop_more, map-append}
 use Rattle.hold_netlist.specs.NameTable.{names_of}
-use Rattle.hold_vparse.specs.declared.tree.Ident.{Ident}
+use Rattle.hold_vsyntax.specs.declared.tree.Ident.{Ident}
 use Rattle.hold_vparse.specs.Flat.{seen_mention, seen_mentions, net_wire, net_wires}
 use Rattle.hold_vparse.specs.Nets.{names, wire, first_uses}
 use Rattle.hold_vparse.specs.Uses.{used}

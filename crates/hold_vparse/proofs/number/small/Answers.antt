@@ -1,8 +1,0 @@
-use Rattle.std.proofs.Common.{arith}
-use Rattle.hold_vparse.specs.Number.{number_of}
-use Rattle.hold_vparse.proofs.NumberLemmas.{at_least_front}
-use Rattle.hold_vparse.proofs.number.small.Goals as goal
-
-pub returns-then-number-from-clause-none : goal.returns-then-number-from-clause-none
-returns-then-number-from-clause-none c =
-    omega (arith, at_least_front c.loop-digit.number (number_of c.args.digits.now) c.args.digits.now c.loop-digit.digit-index c.loop-digit-test.true c.loop-digit.invariant.rest)

@@ -1,7 +1,0 @@
-use Rattle.std.proofs.Common.{◌≡◌, ◌++◌, drop, map}
-use Rattle.hold_vparse.specs.Flat.{targets, seen_ports}
-use Rattle.hold_vparse.specs.Lines.{PortLine}
-use Rattle.hold_vparse.proofs.ports.declared_idents.Given as goal
-
-abbrev pub invariant-loop-line : goal.invariant-loop-line
-invariant-loop-line l = targets l.list.items ++ map (λ (p : PortLine). p.name) (seen_ports (drop l.line-index l.lines)) ≡ map (λ (p : PortLine). p.name) (seen_ports l.lines)
