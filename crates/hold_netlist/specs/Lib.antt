@@ -4,6 +4,7 @@ pub mod Pins
 pub mod Names
 pub mod WellFormed
 pub mod NameTable
+pub mod Seed
 pub mod Doubles
 pub mod Limits
 pub mod Faults

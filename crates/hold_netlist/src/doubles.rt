@@ -8,6 +8,8 @@ ghost use Rattle.hold_netlist.specs.NameTable.{names_of};
 use crate::fault::NetFault;
 use crate::inst::{Inst, Pin};
 use crate::name_table::NameTable;
+use crate::names_seed::names_seed;
+use crate::seed::Seed;
 use crate::wire::Wire;
 use hold_base::{Name, Stop};
 use std::alloc::Global;
@@ -36,10 +38,10 @@ fn see_wires(alloc: Global, seen: &mut NameTable, wires: &[Wire]) -> Result<(), 
 }
 
 /// Tests that no connection of an instance names an earlier one's pin.
-fn see_pins(alloc: Global, pins: &[Pin]) -> Result<(), Stop<NetFault>>
+fn see_pins(alloc: Global, seed: Seed, pins: &[Pin]) -> Result<(), Stop<NetFault>>
     ensures { StopsAt result (double_fault (first_repeat [] (pin_names pins.now))) }
 {
-    let mut seen = NameTable::new(alloc);
+    let mut seen = NameTable::new(alloc, seed);
     for pin in pins {
         see(alloc, &mut seen, &pin.name)?;
     }
@@ -47,12 +49,17 @@ fn see_pins(alloc: Global, pins: &[Pin]) -> Result<(), Stop<NetFault>>
 }
 
 /// Sees the names of the instances in order, and each one's pins on their own.
-fn see_insts(alloc: Global, seen: &mut NameTable, insts: &[Inst]) -> Result<(), Stop<NetFault>>
+fn see_insts(
+    alloc: Global,
+    seed: Seed,
+    seen: &mut NameTable,
+    insts: &[Inst],
+) -> Result<(), Stop<NetFault>>
     ensures { StopsAt result (double_fault (first_double_in_insts (names_of seen.old) insts.now)) }
 {
     for inst in insts {
         see(alloc, seen, &inst.name)?;
-        see_pins(alloc, inst.pins.as_slice())?;
+        see_pins(alloc, seed, inst.pins.as_slice())?;
     }
     Ok(())
 }
@@ -65,7 +72,8 @@ pub(crate) fn test_names(
 ) -> Result<(), Stop<NetFault>>
     ensures { StopsAt result (double_fault (first_double_name (design [] [] wires.now insts.now []))) }
 {
-    let mut seen = NameTable::new(alloc);
+    let seed = names_seed(wires, insts);
+    let mut seen = NameTable::new(alloc, seed);
     see_wires(alloc, &mut seen, wires)?;
-    see_insts(alloc, &mut seen, insts)
+    see_insts(alloc, seed, &mut seen, insts)
 }

@@ -11,8 +11,10 @@ mod keyword;
 mod kind;
 mod limits;
 mod name_table;
+mod names_seed;
 mod netlist;
 mod same;
+mod seed;
 #[cfg(test)]
 mod tests;
 mod wire;
@@ -23,4 +25,5 @@ pub use keyword::is_keyword;
 pub use kind::Kind;
 pub use name_table::NameTable;
 pub use netlist::Netlist;
+pub use seed::Seed;
 pub use wire::{Direction, Port, Wire};

@@ -1,6 +1,7 @@
 ghost use Rattle.std.specs.Prelude.{◌≡◌, ◌++◌, ◌∷◌, [], is_none, None, IfOk, OnErr, if◌then◌else◌};
 ghost use Rattle.hold_netlist.specs.NameTable.{number_of};
 
+use crate::seed::Seed;
 use hold_base::Memory;
 use indexmap::IndexMap;
 use std::alloc::Global;
@@ -9,7 +10,7 @@ use std::marker::Model;
 /// A table from names to numbers. Looking up and adding take the same time, however many there are.
 #[derive(Drop)]
 pub struct NameTable {
-    numbers: IndexMap<Vec<u8>, u32>,
+    numbers: IndexMap<Vec<u8>, u32, Seed>,
 }
 
 impl Model for NameTable {
@@ -22,12 +23,12 @@ impl Model for NameTable {
 }
 
 impl NameTable {
-    /// A table without names. Takes no memory.
-    pub fn new(alloc: Global) -> NameTable
+    /// A table without names, whose hashes go on from this seed. Takes no memory.
+    pub fn new(alloc: Global, seed: Seed) -> NameTable
         ensures { result ≡ [] }
     {
         NameTable {
-            numbers: IndexMap::new(alloc),
+            numbers: IndexMap::with_hasher(alloc, seed),
         }
     }
 

@@ -1,8 +1,11 @@
 ghost use Rattle.std.specs.Prelude.{◌≡◌, None, IfOk};
 ghost use Rattle.hold_netlist.specs.Names.{IsName};
 
-use crate::{Assign, Direction, Inst, NameTable, NetFault, Netlist, Pin, Port, Source, Wire};
-use hold_base::{InstNo, List, Name, NetNo, PinNo, Stop};
+use crate::{
+    Assign, Direction, Inst, NameTable, NetFault, Netlist, Pin, Port, Seed, Source, Wire,
+    is_keyword,
+};
+use hold_base::{InstNo, List, Memory, Name, NetNo, PinNo, Stop};
 use std::alloc::Global;
 
 fn name(alloc: Global, text: &[u8]) -> Result<Name, Stop<NetFault>>
@@ -120,12 +123,26 @@ fn a_copy_has_the_same_parts(rt: HostRuntime) -> Result<(), Stop<NetFault>> {
     Ok(())
 }
 
+/// A table of this seed that keeps the first number of a name.
+fn keeps_the_first_number(alloc: Global, seed: Seed) -> Result<bool, Memory> {
+    let mut table = NameTable::new(alloc, seed);
+    let new = table.add(alloc, b"a", 3)?;
+    let again = table.add(alloc, b"a", 4)?;
+    let found = table.find(b"a") == Some(3) && table.find(b"b").is_none();
+    Ok(new && !again && found)
+}
+
 #[test]
-fn a_table_keeps_the_first_number(rt: HostRuntime) -> Result<(), Stop<NetFault>> {
-    let mut table = NameTable::new(rt.alloc());
-    assert!(rt; table.add(rt.alloc(), b"a", 3)?);
-    assert!(rt; !table.add(rt.alloc(), b"a", 4)?);
-    assert_eq!(rt; table.find(b"a"), Some(3));
-    assert_eq!(rt; table.find(b"b"), None);
+fn tables_of_different_seeds_answer_alike(rt: HostRuntime) -> Result<(), Memory> {
+    assert!(rt; keeps_the_first_number(rt.alloc(), Seed::new())?);
+    assert!(rt; keeps_the_first_number(rt.alloc(), Seed::of(b"module"))?);
     Ok(())
+}
+
+#[test]
+fn keywords_are_told_by_their_bytes(rt: HostRuntime) {
+    assert!(rt; is_keyword(b"always"));
+    assert!(rt; is_keyword(b"xor"));
+    assert!(rt; !is_keyword(b"Always"));
+    assert!(rt; !is_keyword(b""));
 }

@@ -4,6 +4,7 @@
 --   where none is.
 -- TellsPlaces names table: the table gives each name the place at which it stands first, counted from 0.
 -- cell_names, clock_names: the names of cells, and of the registers that have a clock entry, in order.
+-- inst_names: the names of instances, in order.
 -- AreTables timing cell_places clock_places: the two tables tell the places of cells and of clock entries.
 -- is_register timing i: whether the instance's cell is known and is a register. is_register_cell cell, is_register_role role: the
 --   same by a cell, which may be unknown, and by a role.
@@ -31,6 +32,9 @@ cell_names cells = map (λ cell. cell.name) cells
 
 abbrev pub clock_names : List ClockEntry → List (List ℕ)
 clock_names entries = map (λ entry. entry.inst) entries
+
+abbrev pub inst_names : List Inst → List (List ℕ)
+inst_names insts = map (λ i. i.name) insts
 
 pub record AreTables (timing : Timing) (cell_places clock_places : List (List ℕ × ℕ)) : Type 0 where
   pub cells : TellsPlaces (cell_names timing.cells) cell_places

@@ -14,6 +14,7 @@ mod places;
 mod ranks;
 mod registers;
 mod roles;
+mod seeds;
 mod served;
 mod served_insts;
 mod tables;

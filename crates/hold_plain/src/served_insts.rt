@@ -3,6 +3,7 @@ ghost use Rattle.hold_plain.specs.Served.{IsRegister, IsServedInst};
 ghost use Rattle.hold_plain.specs.Tables.{is_register, AreTables, TellsRegisters};
 
 use crate::cell::Role;
+use crate::seeds::insts_seed;
 use crate::tables::{Tables, put};
 use crate::timing::Timing;
 use hold_base::Memory;
@@ -55,7 +56,7 @@ fn registers(
     requires { AreTables timing.now tables.now.cells tables.now.clocks }
     ensures { IfOk result (λ table. TellsRegisters timing.now insts.now table) }
 {
-    let mut table = NameTable::new(alloc);
+    let mut table = NameTable::new(alloc, insts_seed(insts));
     for inst in insts {
         if is_register(tables, timing, inst) {
             put(alloc, &mut table, &inst.name, 0)?;

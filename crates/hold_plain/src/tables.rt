@@ -5,6 +5,7 @@ ghost use Rattle.hold_plain.specs.Cells.{cell_named, arrival_in, clock_arrival};
 ghost use Rattle.hold_plain.specs.Tables.{cell_names, clock_names, AreTables, TellsPlaces};
 
 use crate::cell::Cell;
+use crate::seeds::{cells_seed, clocks_seed};
 use crate::timing::{Clock, Timing};
 use hold_base::{Interval, Memory, Name};
 use hold_netlist::NameTable;
@@ -45,7 +46,7 @@ fn item_at<T>(items: &[T], place: u32) -> Option<&T>
 fn cell_places(alloc: Global, cells: &[Cell]) -> Result<NameTable, Memory>
     ensures { IfOk result (λ table. TellsPlaces (cell_names cells.now) table) }
 {
-    let mut table = NameTable::new(alloc);
+    let mut table = NameTable::new(alloc, cells_seed(cells));
     for (place, cell) in cells.iter().enumerate() {
         put(alloc, &mut table, &cell.name, place)?;
     }
@@ -55,7 +56,7 @@ fn cell_places(alloc: Global, cells: &[Cell]) -> Result<NameTable, Memory>
 fn clock_places(alloc: Global, clocks: &[Clock]) -> Result<NameTable, Memory>
     ensures { IfOk result (λ table. TellsPlaces (clock_names clocks.now) table) }
 {
-    let mut table = NameTable::new(alloc);
+    let mut table = NameTable::new(alloc, clocks_seed(clocks));
     for (place, clock) in clocks.iter().enumerate() {
         put(alloc, &mut table, &clock.inst, place)?;
     }
