@@ -18,6 +18,9 @@ const JOB: &[u8] =
 
 const NETLIST: &[u8] = b"module m();\nendmodule\n";
 
+/// A netlist whose canonical text, which this is, is longer than the certificate.
+const PORTS: &[u8] = b"module m(a, b);\n  input a;\n  input b;\nendmodule\n";
+
 const CERTIFICATE: &[u8] = b"hold-certificate 1\nrepaired 0\nleaf 1\nend\n";
 
 /// What a run answered and left.
@@ -114,10 +117,15 @@ fn run_with(
     fails: Fails,
 ) -> Result<Ran, Fail> {
     let mut files = files_with(alloc, job, netlist, room, fails)?;
-    let outcome = run(alloc, words, &mut files);
+    run_in(alloc, words, &mut files)
+}
+
+/// A run of these words over files that may have been written before.
+fn run_in(alloc: Global, words: &[Name], files: &mut MemoryFiles) -> Result<Ran, Fail> {
+    let outcome = run(alloc, words, files);
     let said = Vec::from_slice(alloc, files.said())?;
-    let certificate = content(alloc, &mut files, b"e.cert")?;
-    let output = content(alloc, &mut files, b"e_out.v")?;
+    let certificate = content(alloc, files, b"e.cert")?;
+    let output = content(alloc, files, b"e_out.v")?;
     Ok(Ran {
         outcome,
         certificate,
@@ -263,6 +271,53 @@ fn a_failed_output_or_line_leaves_the_certificate(rt: HostRuntime) -> Result<(),
         CERTIFICATE,
         NETLIST,
     )
+}
+
+#[test]
+fn an_output_past_the_room_is_cut_short(rt: HostRuntime) -> Result<(), Fail> {
+    let alloc = rt.alloc();
+    let fails = fails_at(alloc, &[], &[], &[], &[])?;
+    let ran = run_over(alloc, b"e.toml", JOB, PORTS, 44, fails)?;
+    assert_eq!(rt; ran.outcome, Outcome::WriteFault);
+    assert_eq!(rt; ran.certificate.as_slice(), CERTIFICATE);
+    assert_eq!(rt; ran.output.as_slice(), &PORTS[..44]);
+    assert_eq!(rt; ran.said.as_slice(), b"".as_slice());
+    Ok(())
+}
+
+/// There is room for each file and for two lines that are said, so that the line of a third run ends past it.
+#[test]
+fn a_line_past_the_room_is_cut_short(rt: HostRuntime) -> Result<(), Fail> {
+    let alloc = rt.alloc();
+    let words = words_of(alloc, b"e.toml")?;
+    let fails = fails_at(alloc, &[], &[], &[], &[])?;
+    let mut files = files_with(alloc, JOB, NETLIST, 42, fails)?;
+    let first = run_in(alloc, words.as_slice(), &mut files)?;
+    let second = run_in(alloc, words.as_slice(), &mut files)?;
+    let third = run_in(alloc, words.as_slice(), &mut files)?;
+    assert_eq!(rt; first.outcome, Outcome::Repaired { cost: 0 });
+    assert_eq!(rt; second.outcome, Outcome::Repaired { cost: 0 });
+    assert_eq!(rt; third.outcome, Outcome::WriteFault);
+    assert_eq!(rt; third.certificate.as_slice(), CERTIFICATE);
+    assert_eq!(rt; third.output.as_slice(), NETLIST);
+    assert_eq!(rt;
+        third.said.as_slice(),
+        b"repaired cost 0\nrepaired cost 0\nrepaired c".as_slice()
+    );
+    Ok(())
+}
+
+/// Each file is written by one start and one piece, and the line is said at once: no later call is there to fail.
+#[test]
+fn a_repair_writes_and_says_each_text_once(rt: HostRuntime) -> Result<(), Fail> {
+    let alloc = rt.alloc();
+    let fails = fails_at(alloc, &[], &[2], &[2], &[1])?;
+    let ran = run_over(alloc, b"e.toml", JOB, NETLIST, 1000, fails)?;
+    assert_eq!(rt; ran.outcome, Outcome::Repaired { cost: 0 });
+    assert_eq!(rt; ran.certificate.as_slice(), CERTIFICATE);
+    assert_eq!(rt; ran.output.as_slice(), NETLIST);
+    assert_eq!(rt; ran.said.as_slice(), b"repaired cost 0\n".as_slice());
+    Ok(())
 }
 
 /// A run of which the read of this number fails, in a file of this name.

@@ -40,8 +40,8 @@ impl JobTable {
         }
     }
 
-    #[tactic(auto, using(crate::proofs::JobFormLemmas::are_all_of_keys))]
     /// Whether the table has no other keys than those of its sort.
+    #[tactic(auto, using(crate::proofs::JobFormLemmas::are_all_of_keys))]
     pub fn has_all_keys(self, table: &Table) -> bool
         ensures { result ≡ has_only (keys_of self) (table_view table.now) }
     {

@@ -376,8 +376,8 @@ fn names_have_greatest_lengths(rt: HostRuntime) {
 /// A list of so many cell types.
 fn types(alloc: Global, count: u32) -> Result<String, AllocError> {
     let mut text = String::from_str(alloc, "type = [")?;
-    for i in 0..count {
-        let cell = format!(in alloc; "{{name=\"T{i}\",role=\"comb\"}},")?;
+    for number in 0..count {
+        let cell = format!(in alloc; "{{name=\"T{number}\",role=\"comb\"}},")?;
         text.push_str(cell.as_str())?;
     }
     text.push_str("]")?;

@@ -268,28 +268,46 @@ fn refuses_clocks(rt: &impl Abort, alloc: Global) -> Result<(), Fail> {
 }
 
 #[test]
-fn jobs_and_netlists_outside_the_form_are_refused(rt: HostRuntime) -> Result<(), Fail> {
+fn netlists_outside_the_form_are_refused(rt: HostRuntime) -> Result<(), Fail> {
     let alloc = rt.alloc();
     for body in &BODIES {
         refuses_body(&rt, alloc, b"", body)?;
     }
     refuses_clocks(&rt, alloc)?;
-    for job in &JOBS {
-        refuses_job(&rt, alloc, job)?;
-    }
-    is_repaired(&rt, alloc, JOB_HEAD, NETLIST, CERTIFICATE)?;
-    for line in &LINES {
-        refuses_line(&rt, alloc, line)?;
-    }
     more_than_is_served_is_refused(&rt, alloc)
 }
 
 #[test]
-fn jobs_and_netlists_just_within_the_form_are_served(rt: HostRuntime) -> Result<(), Fail> {
+fn jobs_outside_the_form_are_refused(rt: HostRuntime) -> Result<(), Fail> {
+    let alloc = rt.alloc();
+    for job in &JOBS {
+        refuses_job(&rt, alloc, job)?;
+    }
+    Ok(())
+}
+
+#[test]
+fn lines_outside_the_form_spoil_a_job(rt: HostRuntime) -> Result<(), Fail> {
+    let alloc = rt.alloc();
+    is_repaired(&rt, alloc, JOB_HEAD, NETLIST, CERTIFICATE)?;
+    for line in &LINES {
+        refuses_line(&rt, alloc, line)?;
+    }
+    Ok(())
+}
+
+#[test]
+fn netlists_just_within_the_form_are_served(rt: HostRuntime) -> Result<(), Fail> {
     let alloc = rt.alloc();
     for body in &SERVED_BODIES {
         serves_body(&rt, alloc, body)?;
     }
+    Ok(())
+}
+
+#[test]
+fn jobs_just_within_the_form_are_served(rt: HostRuntime) -> Result<(), Fail> {
+    let alloc = rt.alloc();
     for line in &SERVED_LINES {
         serves_line(&rt, alloc, line)?;
     }
