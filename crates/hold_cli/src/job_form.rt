@@ -13,6 +13,7 @@ mod each;
 mod key;
 mod name_set;
 mod names;
+mod seeds;
 mod times;
 mod value;
 mod whole;

@@ -3,22 +3,23 @@ ghost use Rattle.hold_vparse.specs.Barred.{none_barred, barred_in};
 
 use crate::barred::Barred;
 use hold_base::{Memory, Name};
+use hold_netlist::Seed;
 use indexmap::IndexMap;
 use std::alloc::Global;
 
 /// The roles that are barred to each name. Looking up and putting take the same time, however many names there are.
 #[derive(Drop)]
 pub(crate) struct BarredNames {
-    roles: IndexMap<Vec<u8>, Barred>,
+    roles: IndexMap<Vec<u8>, Barred, Seed>,
 }
 
 impl BarredNames {
     /// No role is barred to any name. Takes no memory.
-    pub(crate) fn new(alloc: Global) -> BarredNames
+    pub(crate) fn new(alloc: Global, seed: Seed) -> BarredNames
         ensures { (name : List ℕ) → barred_in result name ≡ none_barred }
     {
         BarredNames {
-            roles: IndexMap::new(alloc),
+            roles: IndexMap::with_hasher(alloc, seed),
         }
     }
 

@@ -51,7 +51,7 @@ fn note(
 fn first_double_name<'a>(alloc: Global, parts: &Parts<'a>) -> Result<Option<&'a Ident>, Memory>
     ensures { IfOk result (λ found. found_ident found ≡ soonest (doubles parts.now.tree.now [] (mentions_of parts.now.tree.now))) }
 {
-    let mut seen = BarredNames::new(alloc);
+    let mut seen = BarredNames::new(alloc, parts.seed);
     let mut found = None;
     for mention in parts.mentions {
         found = soonest_of(found, double_name(&seen, mention));
@@ -65,6 +65,6 @@ pub(crate) fn doubled<'a>(alloc: Global, parts: &Parts<'a>) -> Result<Option<&'a
     ensures { IfOk result (λ found. found_ident found ≡ soonest (doubled_in parts.now.tree.now)) }
 {
     let name = first_double_name(alloc, parts)?;
-    let pin = repeated_in_instances(alloc, parts.instances)?;
+    let pin = repeated_in_instances(alloc, parts.seed, parts.instances)?;
     Ok(soonest_of(name, pin))
 }

@@ -5,7 +5,7 @@ ghost use Rattle.hold_vparse.specs.Index.{place_of, IsIndex};
 ghost use Rattle.hold_vparse.specs.Nets.{names};
 
 use hold_base::{Memory, Name};
-use hold_netlist::NameTable;
+use hold_netlist::{NameTable, Seed};
 use hold_vsyntax::tree::Ident;
 use std::alloc::Global;
 use std::marker::Model;
@@ -32,10 +32,10 @@ impl<'a> Model for Index<'a> {
 }
 
 /// The first place of each name. More of them than a table can number are want of memory.
-fn places_of(alloc: Global, idents: &[&Ident]) -> Result<NameTable, Memory>
+fn places_of(alloc: Global, seed: Seed, idents: &[&Ident]) -> Result<NameTable, Memory>
     ensures { IfOk result (λ table. IsIndex table (names (targets idents.now))) }
 {
-    let mut table = NameTable::new(alloc);
+    let mut table = NameTable::new(alloc, seed);
     let mut place = 0u32;
     for ident in idents {
         table.add(alloc, ident.name.bytes(), place)?;
@@ -49,10 +49,10 @@ fn places_of(alloc: Global, idents: &[&Ident]) -> Result<NameTable, Memory>
 
 impl<'a> Index<'a> {
     /// The index of these identifiers, which are taken over.
-    pub(crate) fn of(alloc: Global, idents: Vec<&'a Ident>) -> Result<Index<'a>, Memory>
+    pub(crate) fn of(alloc: Global, seed: Seed, idents: Vec<&'a Ident>) -> Result<Index<'a>, Memory>
         ensures { IfOk result (λ index. index ≡ targets idents.entry.items) }
     {
-        let places = places_of(alloc, &idents)?;
+        let places = places_of(alloc, seed, &idents)?;
         Ok(Index { idents, places })
     }
 

@@ -13,6 +13,7 @@ use crate::range_places::{port_places, wire_places};
 use crate::range_table::RangeTable;
 use crate::ranges::Ranges;
 use hold_base::Memory;
+use hold_netlist::Seed;
 use hold_vsyntax::tree::{Header, Ident, Module};
 use std::alloc::Global;
 
@@ -75,11 +76,11 @@ fn add_other_nets(
 }
 
 /// The ranges of a module's lines, and as yet of no net.
-fn line_ranges(alloc: Global, tree: &Module) -> Result<Ranges<'_>, Memory>
+fn line_ranges(alloc: Global, seed: Seed, tree: &Module) -> Result<Ranges<'_>, Memory>
     ensures { IfOk result (λ ranges. ranges ≡ range_lists (port_ranges (header_lines tree.now.header ++ body_lines tree.now.items)) (wire_ranges (wire_lines tree.now.items)) []) }
 {
     let items = tree.items.as_slice();
-    let mut table = RangeTable::new(alloc);
+    let mut table = RangeTable::new(alloc, seed);
     let ports = port_places(alloc, &mut table, &tree.header, items)?;
     let wires = wire_places(alloc, &mut table, items)?;
     Ok(Ranges::of(alloc, table, ports, wires))
@@ -88,6 +89,7 @@ fn line_ranges(alloc: Global, tree: &Module) -> Result<Ranges<'_>, Memory>
 /// The ranges of a module's lines and nets, of which there are `count`.
 pub(crate) fn all_ranges<'a>(
     alloc: Global,
+    seed: Seed,
     tree: &'a Module,
     lines: &Ports<'a>,
     ports: &[Port<'a>],
@@ -102,7 +104,7 @@ pub(crate) fn all_ranges<'a>(
     requires count { count ≡ length (nets_of tree.now) }
     ensures { IfOk result (λ ranges. ranges ≡ ranges_of tree.now) }
 {
-    let mut ranges = line_ranges(alloc, tree)?;
+    let mut ranges = line_ranges(alloc, seed, tree)?;
     add_port_nets(&mut ranges, tree, lines, ports)?;
     add_other_nets(&mut ranges, header, wires)?;
     ranges.fill(count)?;

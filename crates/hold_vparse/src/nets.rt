@@ -6,6 +6,7 @@ ghost use Rattle.hold_vparse.specs.Index.{place_of};
 use crate::index::Index;
 use crate::lines::NamedWire;
 use hold_base::{Memory, Name};
+use hold_netlist::Seed;
 use hold_vsyntax::tree::Ident;
 use std::alloc::Global;
 use std::marker::Model;
@@ -42,11 +43,15 @@ fn wire_idents<'a>(alloc: Global, wires: &[NamedWire<'a>]) -> Result<Vec<&'a Ide
 
 impl<'a> Nets<'a> {
     /// Takes these wires over.
-    pub(crate) fn of(alloc: Global, wires: Vec<NamedWire<'a>>) -> Result<Nets<'a>, Memory>
+    pub(crate) fn of(
+        alloc: Global,
+        seed: Seed,
+        wires: Vec<NamedWire<'a>>,
+    ) -> Result<Nets<'a>, Memory>
         ensures { IfOk result (λ nets. nets ≡ net_wires wires.entry.items) }
     {
         let idents = wire_idents(alloc, &wires)?;
-        let index = Index::of(alloc, idents)?;
+        let index = Index::of(alloc, seed, idents)?;
         Ok(Nets { wires, index })
     }
 

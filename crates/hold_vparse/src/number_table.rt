@@ -3,7 +3,7 @@ ghost use Rattle.hold_vsyntax.specs.Number.{number_of, IsPlain};
 ghost use Rattle.hold_vparse.specs.NumberTable.{MayAdd, OneEach};
 
 use hold_base::Memory;
-use hold_netlist::NameTable;
+use hold_netlist::{NameTable, Seed};
 use hold_vsyntax::number::Number;
 use itoa::Buffer;
 use std::alloc::Global;
@@ -30,11 +30,11 @@ impl Model for NumberTable {
 
 impl NumberTable {
     /// A table without numbers. Takes no memory.
-    pub(crate) fn new(alloc: Global) -> NumberTable
+    pub(crate) fn new(alloc: Global, seed: Seed) -> NumberTable
         ensures { result ≡ [] }
     {
         NumberTable {
-            classes: NameTable::new(alloc),
+            classes: NameTable::new(alloc, seed),
             count: 0,
         }
     }

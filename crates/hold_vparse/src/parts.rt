@@ -14,6 +14,7 @@ use crate::ports::{Ports, ports_of_header};
 use crate::ranges::Ranges;
 use crate::wires::all_wires;
 use hold_base::Memory;
+use hold_netlist::Seed;
 use hold_vsyntax::tree::{Assignment, Ident, Instance, Module};
 use std::alloc::Global;
 
@@ -21,6 +22,8 @@ use std::alloc::Global;
 #[derive(Clone, Copy)]
 pub(crate) struct Parts<'a> {
     pub tree: &'a Module,
+    /// The seed of the text, which further tables hash by.
+    pub seed: Seed,
     /// The plain list of ports.
     pub listed: &'a Index<'a>,
     /// The lines that give ports a direction, in the header and then in the body.
@@ -53,19 +56,23 @@ pub(crate) struct Parts<'a> {
 }
 
 /// The plain list of ports.
-pub(crate) fn all_listed(alloc: Global, tree: &Module) -> Result<Index<'_>, Memory>
+pub(crate) fn all_listed(alloc: Global, seed: Seed, tree: &Module) -> Result<Index<'_>, Memory>
     ensures { IfOk result (λ listed. listed ≡ header_names tree.now.header) }
 {
     let idents = references(alloc, header_names_in(&tree.header))?;
-    Index::of(alloc, idents)
+    Index::of(alloc, seed, idents)
 }
 
 /// The lines that give ports a direction, in the header and then in the body.
-pub(crate) fn all_port_lines<'a>(alloc: Global, tree: &'a Module) -> Result<Ports<'a>, Memory>
+pub(crate) fn all_port_lines<'a>(
+    alloc: Global,
+    seed: Seed,
+    tree: &'a Module,
+) -> Result<Ports<'a>, Memory>
     ensures { IfOk result (λ ports. ports ≡ header_lines tree.now.header ++ body_lines_of tree.now.items) }
 {
     let lines = port_lines_in(alloc, &tree.header, tree.items.as_slice())?;
-    Ports::of(alloc, lines)
+    Ports::of(alloc, seed, lines)
 }
 
 /// The lines in the body that give ports a direction.
@@ -92,6 +99,7 @@ pub(crate) fn all_ports<'a>(
 /// The names that are declared as nets.
 pub(crate) fn all_declared<'a>(
     alloc: Global,
+    seed: Seed,
     tree: &'a Module,
     ports: &Ports<'a>,
     wires: &[NamedWire<'a>],
@@ -101,20 +109,21 @@ pub(crate) fn all_declared<'a>(
     ensures { IfOk result (λ declared. names declared ≡ declared_names tree.now) }
 {
     let idents = declared_idents(alloc, &tree.header, ports.lines(), wires)?;
-    Index::of(alloc, idents)
+    Index::of(alloc, seed, idents)
 }
 
 /// The ports in the header.
-pub(crate) fn all_headed(alloc: Global, tree: &Module) -> Result<Index<'_>, Memory>
+pub(crate) fn all_headed(alloc: Global, seed: Seed, tree: &Module) -> Result<Index<'_>, Memory>
     ensures { IfOk result (λ headed. headed ≡ port_idents tree.now) }
 {
     let idents = header_idents(alloc, &tree.header)?;
-    Index::of(alloc, idents)
+    Index::of(alloc, seed, idents)
 }
 
 /// All nets.
 pub(crate) fn all_nets<'a>(
     alloc: Global,
+    seed: Seed,
     tree: &'a Module,
     header: &Index<'a>,
     ports: &[Port<'a>],
@@ -129,6 +138,6 @@ pub(crate) fn all_nets<'a>(
     requires mentions { seen_mentions mentions.now ≡ mentions_of tree.now }
     ensures { IfOk result (λ nets. nets ≡ nets_of tree.now) }
 {
-    let wires = all_wires(alloc, ports, header, lines, declared, mentions)?;
-    Nets::of(alloc, wires)
+    let wires = all_wires(alloc, seed, ports, header, lines, declared, mentions)?;
+    Nets::of(alloc, seed, wires)
 }

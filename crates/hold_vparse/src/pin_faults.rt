@@ -8,7 +8,7 @@ ghost use Rattle.hold_vparse.specs.Soonest.{soonest};
 
 use crate::soonest::soonest_of;
 use hold_base::Memory;
-use hold_netlist::NameTable;
+use hold_netlist::{NameTable, Seed};
 use hold_vsyntax::tree::{Connection, Ident, Instance};
 use std::alloc::Global;
 
@@ -32,11 +32,12 @@ fn repeated_pin<'a>(
 /// The first pin that these connections name again.
 fn repeated_in_connections<'a>(
     alloc: Global,
+    seed: Seed,
     connections: &'a [Connection],
 ) -> Result<Option<&'a Ident>, Memory>
     ensures { IfOk result (λ found. found_ident found ≡ soonest (repeated_pins [] connections.now)) }
 {
-    let mut seen = NameTable::new(alloc);
+    let mut seen = NameTable::new(alloc, seed);
     let mut found = None;
     for connection in connections {
         let again = repeated_pin(alloc, &mut seen, &connection.pin)?;
@@ -48,13 +49,14 @@ fn repeated_in_connections<'a>(
 /// The first pin that one of these instances names again.
 pub(crate) fn repeated_in_instances<'a>(
     alloc: Global,
+    seed: Seed,
     instances: &[(&'a Ident, &'a Instance)],
 ) -> Result<Option<&'a Ident>, Memory>
     ensures { IfOk result (λ found. found_ident found ≡ soonest (flat_map repeated_in (seen_instances instances.now))) }
 {
     let mut found = None;
     for named in instances {
-        let again = repeated_in_connections(alloc, named.1.connections.as_slice())?;
+        let again = repeated_in_connections(alloc, seed, named.1.connections.as_slice())?;
         found = soonest_of(found, again);
     }
     Ok(found)

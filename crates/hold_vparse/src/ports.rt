@@ -9,7 +9,7 @@ use crate::idents::port_idents;
 use crate::index::Index;
 use crate::lines::{Port, header_lines_in};
 use hold_base::{Memory, Name};
-use hold_netlist::Direction;
+use hold_netlist::{Direction, Seed};
 use hold_vsyntax::tree::{Header, Ident};
 use std::alloc::Global;
 use std::marker::Model;
@@ -35,11 +35,11 @@ impl<'a> Model for Ports<'a> {
 
 impl<'a> Ports<'a> {
     /// Takes these lines over.
-    pub(crate) fn of(alloc: Global, lines: Vec<Port<'a>>) -> Result<Ports<'a>, Memory>
+    pub(crate) fn of(alloc: Global, seed: Seed, lines: Vec<Port<'a>>) -> Result<Ports<'a>, Memory>
         ensures { IfOk result (λ ports. ports ≡ seen_ports lines.entry.items) }
     {
         let idents = port_idents(alloc, &lines)?;
-        let index = Index::of(alloc, idents)?;
+        let index = Index::of(alloc, seed, idents)?;
         Ok(Ports { lines, index })
     }
 

@@ -11,6 +11,7 @@ ghost use Rattle.hold_vparse.specs.PortFaults.{same_range};
 use crate::measured::Measured;
 use crate::number_table::NumberTable;
 use hold_base::Memory;
+use hold_netlist::Seed;
 use hold_vsyntax::tree::Range;
 use std::alloc::Global;
 use std::marker::Model;
@@ -36,11 +37,11 @@ impl<'a> Model for RangeTable<'a> {
 
 impl<'a> RangeTable<'a> {
     /// A table without ranges. Takes no memory.
-    pub(crate) fn new(alloc: Global) -> RangeTable<'a>
+    pub(crate) fn new(alloc: Global, seed: Seed) -> RangeTable<'a>
         ensures { result ≡ [] }
     {
         RangeTable {
-            numbers: NumberTable::new(alloc),
+            numbers: NumberTable::new(alloc, seed),
             ranges: Vec::new(alloc),
         }
     }

@@ -7,7 +7,7 @@ ghost use Rattle.hold_vparse.specs.Reads.{Reads, IsFirstFault};
 use crate::declared::declared;
 use crate::fault::VerilogFault;
 use hold_base::Stop;
-use hold_netlist::Netlist;
+use hold_netlist::{Netlist, Seed};
 use hold_vsyntax::syntax_tree;
 use std::alloc::Global;
 
@@ -34,7 +34,7 @@ fn netlist_of_text(alloc: Global, text: &[u8]) -> Result<Netlist, Stop<VerilogFa
     ensures refused { Faults result (IsFirstFault text.now) }
 {
     match syntax_tree(alloc, text) {
-        Ok(tree) => declared(alloc, &tree),
+        Ok(tree) => declared(alloc, Seed::of(text), &tree),
         Err(Stop::Memory) => Err(Stop::Memory),
         Err(Stop::Fault(fault)) => Err(Stop::Fault(VerilogFault::from(fault))),
     }

@@ -17,6 +17,7 @@ use crate::parts::{
 use crate::ports::Ports;
 use crate::ranges::Ranges;
 use hold_base::Memory;
+use hold_netlist::Seed;
 use hold_vsyntax::tree::{Assignment, Ident, Instance, Module};
 use std::alloc::Global;
 
@@ -24,6 +25,7 @@ use std::alloc::Global;
 #[derive(Drop)]
 struct PortTables<'a> {
     tree: &'a Module,
+    seed: Seed,
     listed: Index<'a>,
     port_lines: Ports<'a>,
     body_lines: Vec<Port<'a>>,
@@ -67,15 +69,16 @@ pub(crate) struct Tables<'a> {
 }
 
 /// Makes the lists and tables of a module's ports.
-fn port_tables(alloc: Global, tree: &Module) -> Result<PortTables<'_>, Memory>
+fn port_tables(alloc: Global, seed: Seed, tree: &Module) -> Result<PortTables<'_>, Memory>
     ensures { IfOk result (λ tables. tables.tree.now ≡ tree.now) }
 {
-    let listed = all_listed(alloc, tree)?;
-    let port_lines = all_port_lines(alloc, tree)?;
+    let listed = all_listed(alloc, seed, tree)?;
+    let port_lines = all_port_lines(alloc, seed, tree)?;
     let body_lines = all_body_lines(alloc, tree)?;
     let ports = all_ports(alloc, tree, &port_lines)?;
     Ok(PortTables {
         tree,
+        seed,
         listed,
         port_lines,
         body_lines,
@@ -101,12 +104,20 @@ fn net_tables<'a>(alloc: Global, lines: LineTables<'a>) -> Result<NetTables<'a>,
     ensures { IfOk result (λ tables. tables.lines.ports.tree.now ≡ lines.entry.ports.tree.now) }
 {
     let tree = lines.ports.tree;
-    let declared = all_declared(alloc, tree, &lines.ports.port_lines, &lines.wire_lines)?;
+    let seed = lines.ports.seed;
+    let declared = all_declared(
+        alloc,
+        seed,
+        tree,
+        &lines.ports.port_lines,
+        &lines.wire_lines,
+    )?;
     let ports = &lines.ports.ports;
     let wires = &lines.wire_lines;
-    let header = all_headed(alloc, tree)?;
+    let header = all_headed(alloc, seed, tree)?;
     let nets = all_nets(
         alloc,
+        seed,
         tree,
         &header,
         ports,
@@ -116,6 +127,7 @@ fn net_tables<'a>(alloc: Global, lines: LineTables<'a>) -> Result<NetTables<'a>,
     )?;
     let ranges = all_ranges(
         alloc,
+        seed,
         tree,
         &lines.ports.port_lines,
         ports,
@@ -145,11 +157,11 @@ fn all_tables<'a>(alloc: Global, nets: NetTables<'a>) -> Result<Tables<'a>, Memo
     })
 }
 
-/// Makes all lists and tables of a module.
-pub(crate) fn tables_of(alloc: Global, tree: &Module) -> Result<Tables<'_>, Memory>
+/// Makes all lists and tables of a module. The tables hash by this seed.
+pub(crate) fn tables_of(alloc: Global, seed: Seed, tree: &Module) -> Result<Tables<'_>, Memory>
     ensures { IfOk result (λ tables. tables.nets.lines.ports.tree.now ≡ tree.now) }
 {
-    let ports = port_tables(alloc, tree)?;
+    let ports = port_tables(alloc, seed, tree)?;
     let lines = line_tables(alloc, ports)?;
     let nets = net_tables(alloc, lines)?;
     all_tables(alloc, nets)
@@ -164,6 +176,7 @@ pub(crate) fn parts_in<'a>(tables: &'a Tables<'_>) -> Parts<'a>
     let ports = &lines.ports;
     Parts {
         tree: ports.tree,
+        seed: ports.seed,
         listed: &ports.listed,
         port_lines: &ports.port_lines,
         body_lines: &ports.body_lines,

@@ -12,7 +12,7 @@ use crate::index::Index;
 use crate::lines::{NamedWire, Port};
 use crate::mentions::{Mention, Role};
 use hold_base::Memory;
-use hold_netlist::NameTable;
+use hold_netlist::{NameTable, Seed};
 use std::alloc::Global;
 
 /// Puts the wires of the ports behind these.
@@ -74,13 +74,14 @@ fn is_first_use(
 /// Puts a scalar for each name that is used and declared nowhere behind these, in the order of first uses.
 fn add_implicit_wires<'a>(
     alloc: Global,
+    seed: Seed,
     list: &mut Vec<NamedWire<'a>>,
     declared: &Index<'a>,
     mentions: &[Mention<'a>],
 ) -> Result<(), Memory>
     ensures { OnOk result (net_wires list.new.items ≡ net_wires list.old.items ++ map (λ (i : Named). wire i.name None) (first_uses (names declared.now) (used (seen_mentions mentions.now)))) }
 {
-    let mut seen = NameTable::new(alloc);
+    let mut seen = NameTable::new(alloc, seed);
     for mention in mentions {
         if is_first_use(alloc, declared, &mut seen, mention)? {
             list.push(NamedWire {
@@ -95,6 +96,7 @@ fn add_implicit_wires<'a>(
 /// All wires: the ports' ones, the other declared ones, and the implicit ones.
 pub(crate) fn all_wires<'a>(
     alloc: Global,
+    seed: Seed,
     ports: &[Port<'a>],
     header: &Index<'a>,
     lines: &[NamedWire<'a>],
@@ -106,6 +108,6 @@ pub(crate) fn all_wires<'a>(
     let mut list = Vec::new(alloc);
     add_port_wires(&mut list, ports)?;
     add_other_wires(&mut list, header, lines)?;
-    add_implicit_wires(alloc, &mut list, declared, mentions)?;
+    add_implicit_wires(alloc, seed, &mut list, declared, mentions)?;
     Ok(list)
 }

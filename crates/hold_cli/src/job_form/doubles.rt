@@ -4,6 +4,7 @@ ghost use Rattle.hold_netlist.specs.Doubles.{first_repeat};
 ghost use Rattle.hold_cli.specs.JobFormNames.{names_differ};
 
 use crate::job_form::name_set::NameSet;
+use crate::job_form::seeds::seed_of;
 use hold_base::{Memory, Name};
 use std::alloc::Global;
 
@@ -40,6 +41,6 @@ pub fn see_all<T: Named>(alloc: Global, seen: &mut NameSet, items: &[T]) -> Resu
 pub fn differ<T: Named>(alloc: Global, items: &[T]) -> Result<bool, Memory>
     ensures { IfOk result (λ differ. differ ≡ names_differ (map T.name_in items.now)) }
 {
-    let mut seen = NameSet::new(alloc);
+    let mut seen = NameSet::new(alloc, seed_of(items));
     see_all(alloc, &mut seen, items)
 }

@@ -2,7 +2,7 @@ ghost use Rattle.std.specs.Prelude.{◌≡◌, ◌++◌, ◌∷◌, [], not, IfO
 ghost use Rattle.hold_netlist.specs.Names.{is_among};
 
 use hold_base::Memory;
-use hold_netlist::NameTable;
+use hold_netlist::{NameTable, Seed};
 use std::alloc::Global;
 use std::marker::Model;
 
@@ -24,12 +24,12 @@ impl Model for NameSet {
 }
 
 impl NameSet {
-    /// A set without names. Takes no memory.
-    pub fn new(alloc: Global) -> NameSet
+    /// A set without names, whose hashes go on from this seed. Takes no memory.
+    pub fn new(alloc: Global, seed: Seed) -> NameSet
         ensures { result ≡ [] }
     {
         NameSet {
-            table: NameTable::new(alloc),
+            table: NameTable::new(alloc, seed),
         }
     }
 

@@ -1,8 +1,10 @@
 //! Cell types whose arcs and checks are of their own pins, and stand once.
 ghost use Rattle.std.specs.Prelude.{◌≡◌, ℕ, ◌++◌, List, map, true, is_none, IfOk};
+ghost use Rattle.std.specs.Hash.DefaultHasher as sip;
 ghost use Rattle.std.specs.List.{list_all};
 ghost use Rattle.hold_netlist.specs.Doubles.{first_repeat};
 ghost use Rattle.hold_netlist.specs.Names.{is_among};
+ghost use Rattle.hold_netlist.specs.Seed.{start_of, with_texts};
 ghost use Rattle.hold_cli.specs.JobFormNames.{names_differ};
 ghost use Rattle.hold_cli.specs.JobFormCells.{clock_pins, sources_of, pins_of, pair_name, leads_between, is_whole};
 
@@ -10,7 +12,9 @@ use crate::job_form::arcs::{all_lead, pair_names};
 use crate::job_form::checks::all_of;
 use crate::job_form::doubles::{differ, see_all};
 use crate::job_form::name_set::NameSet;
+use crate::job_form::seeds::{add_names, seed_of};
 use hold_base::{Memory, Name};
+use hold_netlist::Seed;
 use hold_plain::{Cell, CellCheck, Role};
 use std::alloc::Global;
 use std::slice;
@@ -35,6 +39,24 @@ fn sources_of(cell: &Cell) -> &[Name]
     }
 }
 
+/// Writes the names of these pins behind what the seed is of.
+fn add_pins(seed: &mut Seed, pins: &[Name])
+    ensures { start_of seed.new ≡ with_texts (start_of seed.old) pins.now }
+{
+    add_names::<Name>(seed, pins);
+}
+
+/// The seed of the names of all pins of the cell.
+fn pins_seed(cell: &Cell) -> Seed
+    ensures { start_of result ≡ with_texts (with_texts (with_texts sip.initial (clock_pins cell.now.clock)) cell.now.inputs) cell.now.outputs }
+{
+    let mut seed = Seed::new();
+    add_pins(&mut seed, clock_pins(cell));
+    add_pins(&mut seed, cell.inputs.as_slice());
+    add_pins(&mut seed, cell.outputs.as_slice());
+    seed
+}
+
 /// Sees these pins up to the first that isn't new, and answers whether there is none.
 fn see_pins(alloc: Global, seen: &mut NameSet, pins: &[Name]) -> Result<bool, Memory>
     ensures new { IfOk result (λ all_new. all_new ≡ is_none (first_repeat seen.old pins.now)) }
@@ -48,7 +70,7 @@ fn see_pins(alloc: Global, seen: &mut NameSet, pins: &[Name]) -> Result<bool, Me
 fn pins_differ(alloc: Global, cell: &Cell) -> Result<bool, Memory>
     ensures { IfOk result (λ differ. differ ≡ names_differ (pins_of cell.now)) }
 {
-    let mut seen = NameSet::new(alloc);
+    let mut seen = NameSet::new(alloc, pins_seed(cell));
     if !see_pins(alloc, &mut seen, clock_pins(cell))? {
         return Ok(false);
     }
@@ -62,7 +84,7 @@ fn pins_differ(alloc: Global, cell: &Cell) -> Result<bool, Memory>
 fn set_of(alloc: Global, names: &[Name]) -> Result<NameSet, Memory>
     ensures { IfOk result (λ set. (name : List ℕ) → is_among name set ≡ is_among name names.now) }
 {
-    let mut set = NameSet::new(alloc);
+    let mut set = NameSet::new(alloc, seed_of::<Name>(names));
     for name in names {
         set.add(alloc, name.bytes())?;
     }

@@ -6,6 +6,7 @@ ghost use Rattle.std.specs.List.{list_all};
 
 use crate::number_table::NumberTable;
 use hold_base::Memory;
+use hold_netlist::Seed;
 use hold_vsyntax::number::{Digits, Number};
 use std::alloc::Global;
 
@@ -42,7 +43,7 @@ fn number(alloc: Global, text: &[u8]) -> Result<Number, Memory> {
 
 #[test]
 fn equal_numbers_have_one_class(rt: HostRuntime) {
-    let mut table = NumberTable::new(rt.alloc());
+    let mut table = NumberTable::new(rt.alloc(), Seed::new());
     for (i, (text, class)) in CLASSES.iter().enumerate() {
         let Ok(number) = number(rt.alloc(), text) else {
             panic!(rt; "row {i}");
