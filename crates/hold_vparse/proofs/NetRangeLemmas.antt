@@ -1,24 +1,20 @@
 -- The ranges of nets, from those of the lines.
-use Rattle.std.proofs.Common.{◌≡◌, ℕ, zero, suc, ◌+◌, ◌-◌, ◌<◌, ◌≤◌, List, [], ◌∷◌, ◌++◌, Bool, true, false, cond, not, refl, sym, ap, ◌∙◌, map, length, take, drop, get_or, replicate, append_assoc, arith}
+use Rattle.std.proofs.Common.{◌≡◌, ℕ, ◌+◌, ◌-◌, ◌<◌, ◌≤◌, List, [], ◌∷◌, ◌++◌, Bool, true, false, cond, not, refl, sym, ap, ◌∙◌, map, length, drop, get_or, replicate, append_assoc, arith}
 use Rattle.std.specs.Prelude.{Option, None, Some, slice_get, unwrap_or}
 use Rattle.std.specs.List.{filter}
 use Rattle.std.specs.Option.{option_map}
 use Rattle.std.proofs.lemmas.List.{map-append, append-nil, length-map, length-append, length-replicate}
 use Rattle.std.proofs.Math.ListN.{drop_of_length-le}
-use Rattle.std.proofs.Math.Seq.{take-append_seam}
 use Rattle.std.proofs.lemmas.Option.{slice_get-map, slice_get_read}
 use Rattle.hold_netlist.specs.Names.{is_among}
 use Rattle.hold_netlist.specs.declared.wire.Wire.{Wire}
-use Rattle.hold_vsyntax.specs.declared.tree.Header.{Header}
-use Rattle.hold_vsyntax.specs.declared.tree.Header.TheVariants.{Bare, Plain, Declared}
 use Rattle.hold_vsyntax.specs.declared.tree.Ident.{Ident}
-use Rattle.hold_vsyntax.specs.declared.tree.Item.{Item}
 use Rattle.hold_vsyntax.specs.declared.tree.Module.{Module}
 use Rattle.hold_vparse.specs.declared.lines.NamedWire.{NamedWire}
 use Rattle.hold_vparse.specs.Bounds.{Hold, Grows}
 use Rattle.hold_vparse.specs.Flat.{seen_range, seen_wire, seen_wires}
 use Rattle.hold_vparse.specs.Index.{at_place, place_of}
-use Rattle.hold_vparse.specs.Lines.{PortLine, WireLine, line_of, as_declared, ports_of, ports_in, header_lines, body_lines, wire_lines}
+use Rattle.hold_vparse.specs.Lines.{PortLine, WireLine, line_of, as_declared, ports_of, header_lines, body_lines, wire_lines}
 use Rattle.hold_vparse.specs.Nets.{names, nets, port_idents, first_uses, declared_names, uses, other_wires, implicit_wires, port_wires, wire}
 use Rattle.hold_vparse.specs.Ranges.{RangeLists, range_lists, with_nets, line_range, port_ranges, wire_ranges, net_ranges, other_ranges, ranges_of}
 use Rattle.hold_vparse.proofs.LineLemmas.{line_of-some, line_of-none}

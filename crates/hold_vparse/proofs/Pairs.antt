@@ -1,7 +1,7 @@
 -- Two lists that belong together item by item.
 --
 -- Each R xs ys: R holds of the items at each place, and the lists are as long.
-use Rattle.std.proofs.Common.{◌≡◌, List, [], ◌∷◌, ◌++◌, map, flat_map, refl}
+use Rattle.std.proofs.Common.{◌≡◌, List, [], ◌∷◌, map, flat_map, refl}
 use Rattle.std.specs.List.{AllByRecursion}
 use Rattle.hold_vsyntax.proofs.AllLemmas.{all-append}
 

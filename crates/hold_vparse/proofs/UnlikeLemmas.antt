@@ -3,7 +3,6 @@ use Rattle.std.proofs.Common.{◌≡◌, ℕ, List, [], ◌∷◌, Bool, true, f
 use Rattle.std.specs.Prelude.{Option, None, Some, slice_get, unwrap_or}
 use Rattle.std.specs.Option.{option_map}
 use Rattle.std.proofs.lemmas.Option.{slice_get-map}
-use Rattle.hold_vsyntax.specs.declared.tree.Ident.{Ident}
 use Rattle.hold_vparse.specs.Index.{place_of}
 use Rattle.hold_vparse.specs.Lines.{PortLine, WireLine, line_of}
 use Rattle.hold_vparse.specs.Nets.{names}

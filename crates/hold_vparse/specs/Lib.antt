@@ -7,7 +7,6 @@ pub mod Found
 pub mod Measured
 pub mod Ranges
 pub mod Widths
-pub mod NamedTree
 pub mod NumberTable
 pub mod DoubleNames
 pub mod Flat

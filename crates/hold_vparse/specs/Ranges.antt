@@ -6,7 +6,7 @@
 -- other_ranges names lines: the ranges of those wire lines whose names are none of these, in order.
 -- next_range r p: the range of a later port of a header, where r is that of the port before it.
 -- ranges_of m: the ranges of a module's port lines, in the header and then in the body, of its wire lines and of its nets.
-use Rattle.std.specs.Prelude.{ℕ, List, ◌++◌, map, not, slice_get, unwrap_or, Option, Some, None}
+use Rattle.std.specs.Prelude.{ℕ, List, ◌++◌, map, not, slice_get, unwrap_or, Option, None}
 use Rattle.std.specs.List.{filter}
 use Rattle.hold_netlist.specs.Names.{is_among}
 use Rattle.hold_netlist.specs.declared.wire.Wire.{Wire}

@@ -3,7 +3,7 @@ use Rattle.std.specs.Prelude.{◌||◌}
 use Rattle.hold_netlist.specs.Names.{is_among}
 use Rattle.hold_vsyntax.specs.declared.tree.Ident.{Ident}
 use Rattle.hold_vparse.specs.declared.barred.Barred.{Barred}
-use Rattle.hold_vparse.specs.Barred.{is_barred, barred_in}
+use Rattle.hold_vparse.specs.Barred.{is_barred}
 use Rattle.hold_vparse.specs.DoubleNames.{clash}
 use Rattle.hold_vparse.specs.Flat.{seen_mention}
 use Rattle.hold_vparse.specs.Nets.{names}

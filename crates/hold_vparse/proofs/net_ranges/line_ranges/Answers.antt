@@ -1,4 +1,4 @@
-use Rattle.std.proofs.Common.{ap, ◌∙◌, ◌++◌, [], subst}
+use Rattle.std.proofs.Common.{◌++◌, subst}
 use Rattle.hold_vparse.specs.Bounds.{Hold}
 use Rattle.hold_vparse.specs.Lines.{header_lines, body_lines, wire_lines}
 use Rattle.hold_vparse.specs.Ranges.{port_ranges, wire_ranges}

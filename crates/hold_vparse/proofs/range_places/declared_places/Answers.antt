@@ -1,6 +1,4 @@
 use Rattle.std.proofs.Common.{◌∷◌, ◌++◌, [], ap, ◌∙◌}
-use Rattle.hold_vparse.specs.Lines.{bounds_of, header_line, next_lines}
-use Rattle.hold_vparse.specs.Ranges.{port_ranges}
 use Rattle.hold_vparse.proofs.PlaceLemmas.{header_start, header_step, header_end}
 use Rattle.hold_vparse.proofs.range_places.declared_places.Goals as goal
 

@@ -1,5 +1,4 @@
-use Rattle.std.proofs.Common.{◌≡◌, ℕ, Option, Some, None, ap, ◌∙◌}
-use Rattle.std.specs.Option.{option_map}
+use Rattle.std.proofs.Common.{Some, None, ap, ◌∙◌}
 use Rattle.hold_vparse.specs.Index.{at_place}
 use Rattle.hold_vparse.specs.Measured.{measured_bounds}
 use Rattle.hold_vparse.proofs.RangeLemmas.{found_at, bounds_at, classes_at}
