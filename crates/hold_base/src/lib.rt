@@ -1,7 +1,8 @@
-//! What every floor of `hold` speaks of: names, times, numbers of things, lists that contracts see as
+//! What every floor of `hold` speaks of: names, times, numbers of things and the limits to them, lists that contracts see as
 //! lists, and the two ways in which a call can stop.
 #![tactic(auto)]
 
+pub mod limits;
 mod list;
 mod name;
 mod number;
@@ -13,7 +14,7 @@ mod text;
 mod time;
 
 pub use list::List;
-pub use name::Name;
+pub use name::{Name, is_printed};
 pub use number::{
     CornerNo, InstNo, KindNo, NetNo, NodeNo, PathNo, PinNo, SearcherNo, SiteNo, VarNo,
 };

@@ -1,4 +1,5 @@
 ghost use Rattle.std.specs.Prelude.{◌≡◌, IfOk};
+ghost use Rattle.hold_base.specs.NameBytes.{is_printed};
 
 use crate::stop::Memory;
 use std::alloc::Global;
@@ -99,4 +100,11 @@ impl Ord for Name {
     fn cmp(&self, other: &Name) -> Ordering {
         self.text.as_slice().cmp(other.text.as_slice())
     }
+}
+
+/// Whether the byte prints and is no space: from 33 to 126. Names in a netlist, and those of cells, instances and pins in a job, are of such bytes alone.
+pub fn is_printed(byte: u8) -> bool
+    ensures { result ≡ is_printed byte }
+{
+    33 <= byte && byte <= 126
 }

@@ -1,6 +1,5 @@
 ghost use Rattle.std.specs.Prelude.{◌≡◌};
-ghost use Rattle.std.specs.Int.{int_min, int_max};
-ghost use Rattle.hold_base.specs.Interval.{IsOrdered};
+ghost use Rattle.hold_base.specs.Interval.{IsOrdered, hull};
 
 /// Which end of the clock cycle a check looks at: hold looks at early arrivals, setup at late ones.
 #[derive(Clone, Copy, Debug, PartialEq, Eq, PartialOrd, Ord)]
@@ -20,8 +19,7 @@ pub struct Interval {
 impl Interval {
     /// The least interval that has both: the lesser least end and the greater greatest end, in fs.
     pub fn hull(self, other: Interval) -> Interval
-        ensures least { result.least ≡ int_min self.least other.least }
-        ensures greatest { result.greatest ≡ int_max self.greatest other.greatest }
+        ensures hull { result ≡ hull self other }
         ensures ordered { IsOrdered self → IsOrdered other → IsOrdered result }
     {
         Interval {
