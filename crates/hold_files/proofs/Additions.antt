@@ -8,22 +8,15 @@ use Rattle.std.specs.Str.{bytes_eq}
 use Rattle.std.specs.BTreeMap.{Updates}
 use Rattle.std.proofs.lemmas.Slice.Eq.{bytes_eq-Decides}
 use Rattle.std.proofs.lemmas.Map.Text.{is_eq-slice_cmp}
+use Rattle.hold_base.proofs.Options.{option_or-none_right}
 use Rattle.hold_files.specs.declared.memory.entry.Entry.{Entry}
 use Rattle.hold_files.specs.Memory.{Entries, entry_of}
-use Rattle.hold_files.specs.Entries.{new_entry, as_output, IsSet, IsTextAdded, IsOutputAdded}
+use Rattle.hold_files.specs.inner.Entries.{new_entry, as_output, IsSet, IsTextAdded, IsOutputAdded}
 
 -- what an update leaves at each name
 pub entry_of-updated : (m n : Entries) (name : List ℕ) (w : Option Entry) → Updates (slice_cmp nat_cmp) m n name w
     → IsSet m n name w
 entry_of-updated m n name w updates = λ q. updates.0 q ∙ ap (λ b. cond b w (entry_of m q)) (is_eq-slice_cmp name q)
-
-pub none_from : {X : Type 0} (o : Option X) → is_some o ≡ false → o ≡ None
-none_from None absent = refl
-none_from (Some x) absent = cc
-
-or_none : {X : Type 0} (o : Option X) → option_or o None ≡ o
-or_none None = refl
-or_none (Some x) = refl
 
 -- a new text at a name that had none
 text_added_at : (m n : Entries) (name q text : List ℕ) (w : Entry) (b : Bool) → (b ≡ true → name ≡ q) → entry_of m name ≡ None
@@ -32,7 +25,7 @@ text_added_at : (m n : Entries) (name q text : List ℕ) (w : Entry) (b : Bool) 
 text_added_at m n name q text w true same none is updated =
     let none_here : entry_of m q ≡ None = subst (λ p. entry_of m p ≡ None) (same refl) none in
     updated ∙ ap Some is ∙ sym (ap (λ o. option_or o (Some (new_entry text 0 false))) none_here)
-text_added_at m n name q text w false same none is updated = updated ∙ sym (or_none (entry_of m q))
+text_added_at m n name q text w false same none is updated = updated ∙ sym (option_or-none_right (entry_of m q))
 
 pub IsTextAdded-new : (m n : Entries) (name text : List ℕ) (w : Entry) → entry_of m name ≡ None → w ≡ new_entry text 0 false
     → IsSet m n name (Some w) → IsTextAdded m n name text

@@ -7,11 +7,12 @@ use Rattle.std.specs.Str.{bytes_eq}
 use Rattle.std.specs.BTreeMap.{WritesThrough}
 use Rattle.std.proofs.lemmas.Slice.Eq.{bytes_eq-Decides}
 use Rattle.std.proofs.lemmas.Map.Text.{is_eq-slice_cmp}
+use Rattle.hold_base.proofs.Bools.{false-never}
 use Rattle.hold_files.specs.declared.memory.entry.Entry.{Entry}
 use Rattle.hold_files.specs.Told.{OnlyReads, OnlyWrites}
 use Rattle.hold_files.specs.declared.memory.Calls.{Calls}
 use Rattle.hold_files.specs.declared.memory.MemoryFiles.{MemoryFiles}
-use Rattle.hold_files.specs.Memory.{Entries, entry_of, told_in, IsNext}
+use Rattle.hold_files.specs.Memory.{Entries, entry_of, told_in, RisesAlone, IsNext}
 
 -- at some name, the entry is as before, or the old one is replaced by the new one
 abbrev pub Turns : Option Entry → Option Entry → Entry → Entry → Type 0
@@ -44,6 +45,12 @@ stays_told a b old new (inr (had, has)) some = rw has (search rules)
 pub count-replaced : (f : Entry → ℕ) (m n : Entries) (others : ℕ) (name : List ℕ) (old new : Entry) → IsReplaced m n name old new → f new ≡ f old
     → (q : List ℕ) → unwrap_or (option_map f (entry_of n q)) others ≡ unwrap_or (option_map f (entry_of m q)) others
 count-replaced f m n others name old new replaced same q = ap (λ o. unwrap_or o others) (kept f (entry_of m q) (entry_of n q) old new (replaced.turns q) same)
+
+-- and what they count apart is counted so for no other name
+pub RisesAlone-replaced : (f : Entry → ℕ) (m : MemoryFiles) (n : Entries) (others : ℕ) (name : List ℕ) (old new : Entry) → IsReplaced m.entries n name old new
+    → RisesAlone m name (λ q. unwrap_or (option_map f (entry_of m.entries q)) others) (λ q. unwrap_or (option_map f (entry_of n q)) others)
+RisesAlone-replaced f m n others name old new replaced q apart =
+    ap (λ o. unwrap_or (option_map f o) others) (replaced.others q (λ same. apart (inl (sym same))))
 
 -- an entry with one read fault more
 pub OnlyReads-replaced : (m n : Entries) (said : List ℕ) (r k s : ℕ) (name : List ℕ) (old new : Entry)
@@ -88,10 +95,6 @@ turn_by m n name q old new true same others had has =
     inr (subst (λ p. entry_of m p ≡ Some old) (same refl) had, subst (λ p. entry_of n p ≡ Some new) (same refl) has)
 turn_by m n name q old new false same others had has = inl (others refl)
 
-apart : (b : Bool) (P : Type 0) → (b ≡ true → P) → (P → ⊥) → b ≡ false
-apart true P holds never = absurd (never (holds refl))
-apart false P holds never = refl
-
 -- a write through what a look-up lent replaces the entry
 pub IsReplaced-lent : (m n : Entries) (name : List ℕ) (old new : Entry) → entry_of m name ≡ Some old
     → WritesThrough (slice_cmp nat_cmp) (slice_cmp nat_cmp name) m new n → IsReplaced m n name old new
@@ -101,7 +104,7 @@ IsReplaced-lent m n name old new had writes =
     let at_is : (q : List ℕ) → is_eq (slice_cmp nat_cmp name q) ≡ bytes_eq name q = λ q. is_eq-slice_cmp name q in
     record {
       turns = λ q. turn_by m n name q old new (bytes_eq name q) (bytes_eq-Decides name q).0 (λ differs. updates.2 q (at_is q ∙ differs)) had updates.1;
-      others = λ q other. updates.2 q (at_is q ∙ apart (bytes_eq name q) (name ≡ q) (bytes_eq-Decides name q).0 (λ e. other (sym e)));
+      others = λ q other. updates.2 q (at_is q ∙ false-never (bytes_eq name q) (name ≡ q) (bytes_eq-Decides name q).0 (λ e. other (sym e)));
     }
 
 -- files in memory after a call that replaces one entry

@@ -2,5 +2,6 @@ pub mod Told
 pub mod Whole
 pub mod Shelf
 pub mod Memory
-pub mod Entries
+pub mod FirstContent
 pub mod Host
+pub mod inner

@@ -3,9 +3,14 @@
 -- told_in: what is told of files in memory, given their entries, the bytes said, the counts of failed reads and of
 --   failed writes that all names without an entry share, and the count of failed sayings.
 -- told_of: what MemoryFiles tells. A name without an entry tells no content.
+-- HasEntry m name: there is a file of that name.
 -- IsOutput m name: there is a file of that name, and it may be written.
 -- IsRoomOf m room: every output, and what is said, may grow to that many bytes.
--- HasNoFault told: all counts of faults are 0. IsFresh m listed: no call was made yet, and the listed ones are to fail.
+-- HasNoFault told: all counts of faults are 0.
+-- IsFresh m listed: no call was made yet, and the listed ones are to fail.
+-- ShareCounter m p q: one counter counts the faults of both names: they are the same, or neither has a file.
+-- RisesAlone m name before now: the counts before and after a call for that name are the same for each name that
+--   doesn't share its counter.
 -- put_growth m name piece, say_growth m piece: how many bytes of the piece the next put or saying takes where it
 --   doesn't fail; 0 where there is no file of that name.
 -- IsNext old new calls: after one call: the numbers of the next calls are these, and the calls that fail, the
@@ -15,7 +20,7 @@
 -- PutFails m name piece: the next put of that piece fails: its number is listed, the name is no output, or the piece
 --   has bytes and none of them fits.
 -- SayFails m piece: the next saying of that piece fails: its number is listed, or the piece has bytes and none fits.
-use Rattle.std.specs.Prelude.{◌≡◌, ◌⊎◌, ℕ, List, Option, Some, None, IsTrue, IsSomeAnd, Contains, unwrap_or, option_map}
+use Rattle.std.specs.Prelude.{◌≡◌, ◌⊎◌, ℕ, List, Option, Some, None, IsTrue, IsSome, IsSomeAnd, Contains, unwrap_or, option_map}
 use Rattle.std.specs.Option.{option_map_or}
 use Rattle.std.specs.Ordering.{nat_cmp}
 use Rattle.std.specs.Cmp.Lexicographic.{slice_cmp}
@@ -49,6 +54,10 @@ told_in entries said other_reads other_writes says = record {
 abbrev pub told_of : MemoryFiles → Told
 told_of m = told_in m.entries m.said.text m.other_read_faults m.other_write_faults m.say_faults
 
+-- there is such a file
+abbrev pub HasEntry : MemoryFiles → List ℕ → Type 0
+HasEntry m name = IsSome (entry_of m.entries name)
+
 -- there is such a file, and it may be written
 abbrev pub IsOutput : MemoryFiles → List ℕ → Type 0
 IsOutput m name = IsSomeAnd (entry_of m.entries name) (λ e. IsTrue e.is_output)
@@ -71,6 +80,14 @@ pub record IsFresh (m : MemoryFiles) (listed : Fails) : Type 0 where
   pub starts : m.calls.starts ≡ 0
   pub puts : m.calls.puts ≡ 0
   pub says : m.calls.says ≡ 0
+
+-- both names are counted by one counter
+abbrev pub ShareCounter : MemoryFiles → List ℕ → List ℕ → Type 0
+ShareCounter m p q = (p ≡ q) ⊎ ((¬ HasEntry m p) × (¬ HasEntry m q))
+
+-- each other counter is as before
+abbrev pub RisesAlone : MemoryFiles → List ℕ → (List ℕ → ℕ) → (List ℕ → ℕ) → Type 0
+RisesAlone m name before now = (q : List ℕ) → (¬ ShareCounter m name q) → now q ≡ before q
 
 -- how many bytes a put takes
 abbrev pub put_growth : MemoryFiles → List ℕ → List ℕ → ℕ

@@ -47,7 +47,7 @@ pub struct MemoryFiles {
 
 impl MemoryFiles {
     ghost use Rattle.hold_files.specs.Memory.{told_of, IsOutput, IsRoomOf, IsFresh, HasNoFault};
-    ghost use Rattle.hold_files.specs.Entries.{first_content, is_listed_name};
+    ghost use Rattle.hold_files.specs.FirstContent.{first_content, is_listed_name};
 
     /// Files with these texts. Of several texts of one name the first counts. An output begins with its
     /// text, or empty. Takes `room` bytes for each output and for what is said, so that no later call takes
@@ -93,7 +93,7 @@ impl MemoryFiles {
 }
 
 impl Files for MemoryFiles {
-    ghost use Rattle.hold_files.specs.Memory.{told_of, ReadFails, StartFails, PutFails, SayFails, IsNext, put_growth, say_growth};
+    ghost use Rattle.hold_files.specs.Memory.{told_of, RisesAlone, ReadFails, StartFails, PutFails, SayFails, IsNext, put_growth, say_growth};
     ghost use Rattle.hold_files.specs.Shelf.{bytes_at, risen};
 
     ghost told = { told_of };
@@ -109,6 +109,7 @@ impl Files for MemoryFiles {
 
         ensures cause { IsErr result ↔ ReadFails self.old name.now }
         ensures counted { OnOk result (SameReadFaults (told_of self.old) (told_of self.new)) }
+        ensures alone { RisesAlone self.old name.now (told_of self.old).read_faults (told_of self.new).read_faults }
         ensures all { IfOk result (λ n. (text : List ℕ) → (told_of self.old).content name.now ≡ Some text
             → n ≡ bytes_at at into.old text) }
         ensures next { IsNext self.old self.new (record self.old.calls { reads = risen self.old.calls.reads }) }
@@ -130,6 +131,7 @@ impl Files for MemoryFiles {
 
         ensures cause { IsErr result ↔ StartFails self.old name.now }
         ensures counted { OnOk result (SameWriteFaults (told_of self.old) (told_of self.new)) }
+        ensures alone { RisesAlone self.old name.now (told_of self.old).write_faults (told_of self.new).write_faults }
         ensures next { IsNext self.old self.new (record self.old.calls { starts = risen self.old.calls.starts }) }
     {
         let is_refused = is_listed(&self.fails.starts, self.calls.starts);
@@ -152,6 +154,7 @@ impl Files for MemoryFiles {
 
         ensures cause { IsErr result ↔ PutFails self.old name.now piece.now }
         ensures counted { OnOk result (SameWriteFaults (told_of self.old) (told_of self.new)) }
+        ensures alone { RisesAlone self.old name.now (told_of self.old).write_faults (told_of self.new).write_faults }
         ensures fits { IfOk result (λ n. n ≡ put_growth self.old name.now piece.now) }
         ensures next { IsNext self.old self.new (record self.old.calls { puts = risen self.old.calls.puts }) }
     {
@@ -196,6 +199,3 @@ fn is_listed(numbers: &List<u64>, number: u64) -> bool
 {
     numbers.as_slice().contains(&number)
 }
-
-#[cfg(test)]
-mod tests;

@@ -1,7 +1,7 @@
 ghost use Rattle.std.specs.Prelude.{◌≡◌, ℕ, List, [], IfOk, OnOk};
 ghost use Rattle.std.specs.Option.{option_map_or};
 ghost use Rattle.hold_files.specs.Memory.{entry_of};
-ghost use Rattle.hold_files.specs.Entries.{IsSet, IsTextAdded, IsOutputAdded, entry_in_texts, entry_with_outputs};
+ghost use Rattle.hold_files.specs.inner.Entries.{IsSet, IsTextAdded, IsOutputAdded, entry_in_texts, entry_with_outputs};
 
 use super::buffer::Buffer;
 use super::entry::Entry;

@@ -15,7 +15,7 @@ pub struct Entry {
 }
 
 impl Entry {
-    ghost use Rattle.hold_files.specs.Entries.{new_entry};
+    ghost use Rattle.hold_files.specs.inner.Entries.{new_entry};
 
     /// A file with this text and no fault.
     pub fn new(bytes: Vec<u8>, room: usize, is_output: bool) -> Result<Entry, AllocError>

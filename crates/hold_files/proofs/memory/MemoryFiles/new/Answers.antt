@@ -1,6 +1,7 @@
 use Rattle.std.proofs.Common.{◌≡◌, ℕ, List, ◌∙◌, ap, refl}
 use Rattle.hold_files.specs.Memory.{entry_of}
-use Rattle.hold_files.specs.Entries.{is_listed_name, text_in, entry_with_outputs}
+use Rattle.hold_files.specs.inner.Entries.{entry_with_outputs}
+use Rattle.hold_files.specs.FirstContent.{is_listed_name, text_in}
 use Rattle.hold_files.proofs.Additions.{first_at, no_read_fault, no_write_fault, room_at}
 use Rattle.hold_files.proofs.memory.MemoryFiles.new.Goals as goal
 

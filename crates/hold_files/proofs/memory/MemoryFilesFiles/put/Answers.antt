@@ -2,8 +2,14 @@ use Rattle.std.proofs.Common.{◌≡◌, sym, ap, refl, rules}
 use Rattle.std.proofs.lemmas.Result.{IfOk-weaker}
 use Rattle.hold_files.specs.declared.memory.entry.Entry.{Entry}
 use Rattle.hold_files.specs.Shelf.{risen}
-use Rattle.hold_files.proofs.EntryLemmas.{IsReplaced-lent, count-replaced, OnlyWrites-replaced, IsNext-replaced}
+use Rattle.hold_files.proofs.EntryLemmas.{IsReplaced-lent, count-replaced, RisesAlone-replaced, OnlyWrites-replaced, IsNext-replaced}
 use Rattle.hold_files.proofs.memory.MemoryFilesFiles.put.Goals as goal
+
+pub returns-clause-alone : goal.returns-clause-alone
+returns-clause-alone c =
+    let replaced = IsReplaced-lent c.args.self.now.entries (c.get_mut.follows.lender c.put.new.self) c.args.name.now c.in-Some.entry.now c.put.new.self
+    (sym c.in-Some.ensures.value) (c.get_mut.follows.holds c.put.new.self) in
+    RisesAlone-replaced (λ (e : Entry). e.write_faults) c.args.self.now _ c.args.self.now.other_write_faults _ _ _ replaced
 
 pub returns-clause-stays : goal.returns-clause-stays
 returns-clause-stays c =

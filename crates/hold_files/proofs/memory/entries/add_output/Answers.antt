@@ -1,6 +1,6 @@
 use Rattle.std.proofs.Common.{◌∙◌, ap, true}
 use Rattle.std.proofs.lemmas.Result.{on_ok_weaker}
-use Rattle.hold_files.specs.Entries.{new_entry}
+use Rattle.hold_files.specs.inner.Entries.{new_entry}
 use Rattle.hold_files.proofs.Additions.{IsOutputAdded-put}
 use Rattle.hold_files.proofs.memory.entries.add_output.Goals as goal
 

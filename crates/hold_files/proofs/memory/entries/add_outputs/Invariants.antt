@@ -1,6 +1,6 @@
 use Rattle.std.proofs.Common.{◌≡◌, ℕ, List}
 use Rattle.hold_files.specs.Memory.{entry_of}
-use Rattle.hold_files.specs.Entries.{entry_with_outputs}
+use Rattle.hold_files.specs.inner.Entries.{entry_with_outputs}
 use Rattle.hold_files.proofs.memory.entries.add_outputs.Given as goal
 
 abbrev pub invariant-loop-name : goal.invariant-loop-name

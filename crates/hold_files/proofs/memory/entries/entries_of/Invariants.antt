@@ -1,7 +1,7 @@
 use Rattle.std.proofs.Common.{◌≡◌, ℕ, List}
 use Rattle.std.specs.Option.{option_or}
 use Rattle.hold_files.specs.Memory.{entry_of}
-use Rattle.hold_files.specs.Entries.{entry_in_texts}
+use Rattle.hold_files.specs.inner.Entries.{entry_in_texts}
 use Rattle.hold_files.proofs.memory.entries.entries_of.Given as goal
 
 abbrev pub invariant-loop-name : goal.invariant-loop-name

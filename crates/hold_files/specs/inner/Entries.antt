@@ -1,9 +1,5 @@
 -- new_entry text room is_output: a file with that text, which may grow to that room, is an output or not, and has no
 --   fault.
--- text_in q texts: the first text of that name, or None where no text has it.
--- is_listed_name q names: whether the name is among them.
--- first_content q texts outputs: the content of the file of that name before any call: its first text, else empty
---   where it is an output; None where it is neither.
 -- entry_in_texts q texts: the file of that name where each first text is a file and no output; None where no text
 --   has the name.
 -- as_output before room: an output of that room, with the text from before, or empty where there was none, and
@@ -16,29 +12,16 @@
 --   other name has what it had, and so has that one if it had a file.
 -- IsOutputAdded old new name room: that name has what as_output makes of its file, and each other name has what it
 --   had.
-use Rattle.std.specs.Prelude.{◌≡◌, ℕ, Bool, true, false, List, [], ◌∷◌, Option, Some, None, Vec, option_map, if◌then◌else◌}
+use Rattle.std.specs.Prelude.{◌≡◌, ℕ, Bool, true, false, List, [], Option, Some, None, Vec, option_map, if◌then◌else◌}
 use Rattle.std.specs.Option.{option_or, option_map_or}
 use Rattle.std.specs.Str.{bytes_eq}
 use Rattle.std.specs.declared.alloc.Global.{Global}
 use Rattle.hold_files.specs.declared.memory.entry.Entry.{Entry}
 use Rattle.hold_files.specs.Memory.{Entries, entry_of}
+use Rattle.hold_files.specs.FirstContent.{text_in, is_listed_name}
 
 abbrev pub new_entry : List ℕ → ℕ → Bool → Entry
 new_entry text room is_output = record { buffer = record { text = text; room = room }; is_output = is_output; read_faults = 0; write_faults = 0 }
-
--- the first text of that name
-abbrev pub text_in : List ℕ → List (List ℕ × Vec ℕ Global) → Option (List ℕ)
-text_in q [] = None
-text_in q (t ∷ ts) = if bytes_eq t.0 q then Some t.1.items else text_in q ts
-
--- the name is among them
-abbrev pub is_listed_name : List ℕ → List (List ℕ) → Bool
-is_listed_name q [] = false
-is_listed_name q (name ∷ names) = if bytes_eq name q then true else is_listed_name q names
-
--- the content at first: the first text of that name, or else empty where it is an output
-abbrev pub first_content : List ℕ → List (List ℕ × Vec ℕ Global) → List (List ℕ) → Option (List ℕ)
-first_content q texts outputs = option_or (text_in q texts) (if is_listed_name q outputs then Some [] else None)
 
 -- a file that is no output, for each first text
 abbrev pub entry_in_texts : List ℕ → List (List ℕ × Vec ℕ Global) → Option Entry

@@ -1,6 +1,6 @@
-use super::*;
-use crate::{ReadError, read_whole, say_whole, write_whole};
-use std::alloc::AllocError;
+use hold_base::{List, Memory, Name};
+use hold_files::{Fails, MemoryFiles, ReadError, read_whole, say_whole, write_whole};
+use std::alloc::{AllocError, Global};
 
 fn name(alloc: Global, text: &[u8]) -> Result<Name, Memory> {
     Name::from_bytes(alloc, text)
