@@ -1,5 +1,6 @@
 pub mod NameTableLemmas
 pub mod DoubleLemmas
-pub mod FirstPinLemmas
-pub mod SameLemmas
+pub mod NumberingLemmas
+pub mod PinTextLemmas
 pub mod RowLemmas
+pub mod LimitLemmas

@@ -1,11 +1,13 @@
 -- Tables from names to numbers: what the entries of a map say of the pairs that a contract sees.
-use Rattle.std.proofs.Common.{◌≡◌, ℕ, List, [], ◌∷◌, ◌++◌, Bool, true, false, cond, refl, ap, ◌∙◌, bytes_eq, is_some, is_none, not}
-use Rattle.std.specs.Prelude.{Vec, Option, None, Some, Result, Ok, Err, OnErr, ◌||◌}
+use Rattle.std.proofs.Common.{◌≡◌, ℕ, List, [], ◌∷◌, ◌++◌, Bool, true, false, cond, refl, ap, sym, ◌∙◌, bytes_eq, is_some, is_none, not}
+use Rattle.std.specs.Prelude.{Vec, None, Some, ◌||◌}
 use Rattle.std.specs.declared.alloc.Global.{Global}
 use Rattle.std.specs.Map.{lookup}
 use Rattle.indexmap.specs.IndexMap.{insert_entry}
+use Rattle.hold_base.proofs.Options.{none-is_some}
 use Rattle.hold_netlist.specs.Names.{is_among}
-use Rattle.hold_netlist.specs.NameTable.{names_of, number_of, pairs_of}
+use Rattle.hold_netlist.specs.inner.NameTable.{names_of, pairs_of}
+use Rattle.hold_netlist.specs.NameTable.{number_of}
 
 -- a look-up by bytes among the entries
 pub number_of_entries : (name : List ℕ) (es : List (Vec ℕ Global × ℕ)) → lookup (λ k. bytes_eq name k.items) es ≡ number_of name (pairs_of es)
@@ -37,20 +39,10 @@ is_some_number name (p ∷ ps) = by (bytes_eq name p.0) (is_some_number name ps)
 pub is_none_number : (name : List ℕ) (pairs : List (List ℕ × ℕ)) → is_none (number_of name pairs) ≡ not (is_among name (names_of pairs))
 is_none_number name pairs = ap not (is_some_number name pairs)
 
--- no number, so no pair
-pub none_of : (o : Option ℕ) → false ≡ is_some o → o ≡ None
-none_of None h = refl
-none_of (Some n) h = cc
-
--- what is so of a table is so where a call was refused
-pub on_refusal : {X E P : Type 0} (r : Result X E) → P → OnErr r P
-on_refusal (Ok x) p = record {}
-on_refusal (Err e) p = p
-
 -- what stands in the table once a new name was put into its map
 pub added_pair : (old new : List (Vec ℕ Global × ℕ)) (name : List ℕ) (pairs : List (List ℕ × ℕ)) (k : Vec ℕ Global) (n : ℕ)
     → pairs_of old ≡ pairs → k.items ≡ name → false ≡ is_some (number_of name pairs)
     → new ≡ insert_entry (λ a b. bytes_eq a.items b.items) old k n → pairs_of new ≡ pairs ++ (name, n) ∷ []
 added_pair old new name pairs k n seen same missing put =
-    let none : number_of k.items (pairs_of old) ≡ None = rw (same, seen) (none_of _ missing) in
+    let none : number_of k.items (pairs_of old) ≡ None = rw (same, seen) (none-is_some _ (sym missing)) in
     ap pairs_of put ∙ pairs_of_added old k n none ∙ rw (same, seen) refl

@@ -1,4 +1,5 @@
 pub mod Design
+pub mod Numbering
 pub mod Bits
 pub mod Pins
 pub mod Names
@@ -9,6 +10,8 @@ pub mod Doubles
 pub mod Limits
 pub mod Faults
 pub mod Valid
+pub mod PinText
 pub mod Keywords
 pub mod Identifier
 pub mod CanonicalText
+pub mod inner

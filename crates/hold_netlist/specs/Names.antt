@@ -1,15 +1,10 @@
--- IsName text: at least one byte, each a printable one that is no space: 33 to 126.
 -- port_names, wire_names, pin_names: the names of ports, wires and connections, in order.
 -- is_among name names: whether the name is one of these.
-use Rattle.std.specs.Prelude.{ℕ, ◌≤◌, ◌≢◌, List, [], map, Bool, bytes_eq}
-use Rattle.std.specs.List.{AllByRecursion, list_any}
+use Rattle.std.specs.Prelude.{ℕ, List, map, Bool, bytes_eq}
+use Rattle.std.specs.List.{list_any}
 use Rattle.hold_netlist.specs.declared.wire.Port.{Port}
 use Rattle.hold_netlist.specs.declared.wire.Wire.{Wire}
 use Rattle.hold_netlist.specs.declared.inst.Pin.{Pin}
-
-pub record IsName (text : List ℕ) : Type 0 where
-  pub some : text ≢ []
-  pub bytes : AllByRecursion (λ b. (33 ≤ b) × (b ≤ 126)) text
 
 abbrev pub port_names : List Port → List (List ℕ)
 port_names ports = map (λ p. p.name) ports

@@ -10,6 +10,7 @@
 --   many parts there are.
 use Rattle.std.specs.Prelude.{◌≡◌, ◌≢◌, ℕ, ◌<◌, ◌≤◌, length, take, Option, Some, None}
 use Rattle.std.specs.List.{AllByRecursion}
+use Rattle.hold_base.specs.Limits.{bound_limit}
 use Rattle.hold_netlist.specs.declared.wire.Wire.{Wire}
 use Rattle.hold_netlist.specs.declared.inst.Source.{Source}
 use Rattle.hold_netlist.specs.declared.inst.Source.TheVariants.{Net, Zero, One, Empty}
@@ -18,7 +19,8 @@ use Rattle.hold_netlist.specs.declared.inst.Inst.{Inst}
 use Rattle.hold_netlist.specs.declared.inst.Assign.{Assign}
 use Rattle.hold_netlist.specs.Design.{Design}
 use Rattle.hold_netlist.specs.Bits.{bits_of}
-use Rattle.hold_netlist.specs.Names.{IsName, port_names, wire_names}
+use Rattle.hold_base.specs.NameBytes.{IsName}
+use Rattle.hold_netlist.specs.Names.{port_names, wire_names}
 
 abbrev pub IsSource : ℕ → Source → Type 0
 IsSource bits (Net n) = n.0 < bits
@@ -28,7 +30,7 @@ IsSource bits Empty = Unit {0}
 
 abbrev pub HasBoundsInLimit : Option (ℕ × ℕ) → Type 0
 HasBoundsInLimit None = Unit {0}
-HasBoundsInLimit (Some r) = (r.0 ≤ 1048575) × (r.1 ≤ 1048575)
+HasBoundsInLimit (Some r) = (r.0 ≤ bound_limit) × (r.1 ≤ bound_limit)
 
 pub record IsWrittenWire (w : Wire) : Type 0 where
   pub name : IsName w.name

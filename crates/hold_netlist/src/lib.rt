@@ -5,7 +5,6 @@
 mod copy;
 mod doubles;
 mod fault;
-mod first_pins;
 mod inst;
 mod keyword;
 mod kind;
@@ -13,10 +12,10 @@ mod limits;
 mod name_table;
 mod names_seed;
 mod netlist;
+mod numbering;
+mod pin_text;
 mod same;
 mod seed;
-#[cfg(test)]
-mod tests;
 mod wire;
 
 pub use fault::NetFault;
@@ -25,5 +24,6 @@ pub use keyword::is_keyword;
 pub use kind::Kind;
 pub use name_table::NameTable;
 pub use netlist::Netlist;
+pub use pin_text::put_index;
 pub use seed::Seed;
 pub use wire::{Direction, Port, Wire};

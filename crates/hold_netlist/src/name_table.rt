@@ -15,7 +15,7 @@ pub struct NameTable {
 
 impl Model for NameTable {
     ghost use Rattle.std.specs.Prelude.{List, ℕ};
-    ghost use Rattle.hold_netlist.specs.NameTable.{pairs_of};
+    ghost use Rattle.hold_netlist.specs.inner.NameTable.{pairs_of};
 
     ghost Value = { List (List ℕ × ℕ) };
 

@@ -1,7 +1,8 @@
 ghost use Rattle.std.specs.Prelude.{◌≡◌};
 ghost use Rattle.std.specs.Hash.DefaultHasher as sip;
 ghost use Rattle.hold_netlist.specs.Names.{wire_names, pin_names};
-ghost use Rattle.hold_netlist.specs.Seed.{start_of, with_texts, with_insts};
+ghost use Rattle.hold_netlist.specs.Seed.{start_of};
+ghost use Rattle.hold_netlist.specs.inner.Seed.{with_texts, with_insts};
 
 use crate::inst::{Inst, Pin};
 use crate::seed::Seed;

@@ -7,7 +7,7 @@ use Rattle.hold_netlist.specs.declared.wire.Port.{Port}
 use Rattle.hold_netlist.specs.declared.inst.Pin.{Pin}
 use Rattle.hold_netlist.specs.CanonicalText.{joined, spelled, connection_text}
 use Rattle.hold_netlist.specs.Names.{port_names}
-use Rattle.hold_vwrite.specs.Joined.{each_after_comma}
+use Rattle.hold_vwrite.specs.inner.Joined.{each_after_comma}
 
 joined_cons : (t : List ℕ) (ts : List (List ℕ)) → joined (t ∷ ts) ≡ t ++ each_after_comma ts
 joined_cons t [] = sym (append-nil t)

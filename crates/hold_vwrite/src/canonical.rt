@@ -1,7 +1,6 @@
 ghost use Rattle.std.specs.Prelude.{◌≡◌, IfOk};
 ghost use Rattle.hold_netlist.specs.CanonicalText.{canonical_text};
 
-use crate::bits::bit_ends;
 use crate::insts::put_inst_lines;
 use crate::lines::{put_assign_lines, put_port_lines, put_wire_lines};
 use crate::module::put_module_line;
@@ -17,14 +16,13 @@ pub fn write(alloc: Global, netlist: &Netlist) -> Result<Vec<u8>, Memory>
     netlist.know_valid();
     let ports = netlist.ports();
     let wires = netlist.wires();
-    let ends = bit_ends(alloc, wires)?;
     let (_, others) = wires.split_at(ports.len());
     let mut out = Vec::new(alloc);
     put_module_line(&mut out, netlist.name(), ports)?;
     put_port_lines(&mut out, ports, wires)?;
     put_wire_lines(&mut out, others)?;
-    put_assign_lines(&mut out, wires, &ends, netlist.assigns())?;
-    put_inst_lines(&mut out, wires, &ends, netlist.insts())?;
+    put_assign_lines(&mut out, netlist, netlist.assigns())?;
+    put_inst_lines(&mut out, netlist, netlist.insts())?;
     out.extend_from_slice(b"endmodule\n")?;
     Ok(out)
 }

@@ -8,8 +8,5 @@ mod lines;
 mod module;
 mod name;
 mod range;
-mod source;
-#[cfg(test)]
-mod tests;
 
 pub use canonical::write;

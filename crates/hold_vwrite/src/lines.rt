@@ -1,16 +1,11 @@
 ghost use Rattle.std.specs.Prelude.{◌≡◌, ◌≤◌, ◌++◌, length, flat_map, OnOk};
-ghost use Rattle.std.specs.List.{AllByRecursion};
-ghost use Rattle.hold_netlist.specs.Bits.{bits_of};
 ghost use Rattle.hold_netlist.specs.CanonicalText.{direction_text, port_line, port_lines, wire_line, assign_line};
-ghost use Rattle.hold_netlist.specs.WellFormed.{IsWrittenAssign};
-ghost use Rattle.hold_vwrite.specs.Ends.{bit_ends_from};
 
-use crate::bits::put_bit;
+use crate::bits::{put_bit, put_source};
 use crate::name::put_name;
 use crate::range::put_range;
-use crate::source::put_source;
 use hold_base::Memory;
-use hold_netlist::{Assign, Direction, Port, Wire};
+use hold_netlist::{Assign, Direction, Netlist, Port, Wire};
 
 /// The word of a direction, and a space.
 fn direction_word(direction: Direction) -> &'static [u8]
@@ -71,21 +66,13 @@ pub(crate) fn put_wire_lines(out: &mut Vec<u8>, wires: &[Wire]) -> Result<(), Me
 }
 
 /// Appends the line of an assigned bit.
-fn put_assign_line(
-    out: &mut Vec<u8>,
-    wires: &[Wire],
-    ends: &[u32],
-    assign: &Assign,
-) -> Result<(), Memory>
-    requires ends { ends.now ≡ bit_ends_from 0 wires.now }
-    requires few { bits_of wires.now ≤ 33554432 }
-    requires written { IsWrittenAssign (bits_of wires.now) assign.now }
-    ensures { OnOk result (out.new.items ≡ out.old.items ++ assign_line wires.now assign.now) }
+fn put_assign_line(out: &mut Vec<u8>, netlist: &Netlist, assign: &Assign) -> Result<(), Memory>
+    ensures { OnOk result (out.new.items ≡ out.old.items ++ assign_line netlist.now.wires assign.now) }
 {
     out.extend_from_slice(b"  assign ")?;
-    put_bit(out, wires, ends, assign.left)?;
+    put_bit(out, netlist, assign.left)?;
     out.extend_from_slice(b" = ")?;
-    put_source(out, wires, ends, assign.right)?;
+    put_source(out, netlist, assign.right)?;
     out.extend_from_slice(b";\n")?;
     Ok(())
 }
@@ -93,17 +80,13 @@ fn put_assign_line(
 /// Appends the lines of the assigned bits.
 pub(crate) fn put_assign_lines(
     out: &mut Vec<u8>,
-    wires: &[Wire],
-    ends: &[u32],
+    netlist: &Netlist,
     assigns: &[Assign],
 ) -> Result<(), Memory>
-    requires ends { ends.now ≡ bit_ends_from 0 wires.now }
-    requires few { bits_of wires.now ≤ 33554432 }
-    requires written { AllByRecursion (IsWrittenAssign (bits_of wires.now)) assigns.now }
-    ensures { OnOk result (out.new.items ≡ out.old.items ++ flat_map (assign_line wires.now) assigns.now) }
+    ensures { OnOk result (out.new.items ≡ out.old.items ++ flat_map (assign_line netlist.now.wires) assigns.now) }
 {
     for assign in assigns {
-        put_assign_line(out, wires, ends, assign)?;
+        put_assign_line(out, netlist, assign)?;
     }
     Ok(())
 }

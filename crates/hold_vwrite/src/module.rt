@@ -1,7 +1,7 @@
 ghost use Rattle.std.specs.Prelude.{◌≡◌, ◌++◌, map, OnOk};
 ghost use Rattle.hold_netlist.specs.CanonicalText.{spelled, joined, module_line};
 ghost use Rattle.hold_netlist.specs.Names.{port_names};
-ghost use Rattle.hold_vwrite.specs.Joined.{each_after_comma};
+ghost use Rattle.hold_vwrite.specs.inner.Joined.{each_after_comma};
 
 use crate::name::put_name;
 use hold_base::{Memory, Name};

@@ -1,6 +1,6 @@
 use Rattle.std.proofs.Common.{◌≡◌, drop}
 use Rattle.hold_netlist.specs.Doubles.{first_double_in_insts}
-use Rattle.hold_netlist.specs.NameTable.{names_of}
+use Rattle.hold_netlist.specs.inner.NameTable.{names_of}
 use Rattle.hold_netlist.proofs.doubles.see_insts.Given as goal
 
 -- what is left has the first double name of the whole

@@ -1,7 +1,7 @@
 use Rattle.std.proofs.Common.{◌≡◌, [], drop}
 use Rattle.hold_netlist.specs.Doubles.{first_repeat}
 use Rattle.hold_netlist.specs.Names.{pin_names}
-use Rattle.hold_netlist.specs.NameTable.{names_of}
+use Rattle.hold_netlist.specs.inner.NameTable.{names_of}
 use Rattle.hold_netlist.proofs.doubles.see_pins.Given as goal
 
 -- what is left has the first double name of the whole

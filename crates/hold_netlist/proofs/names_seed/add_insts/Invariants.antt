@@ -1,5 +1,6 @@
 use Rattle.std.proofs.Common.{◌≡◌, drop}
-use Rattle.hold_netlist.specs.Seed.{start_of, with_insts}
+use Rattle.hold_netlist.specs.Seed.{start_of}
+use Rattle.hold_netlist.specs.inner.Seed.{with_insts}
 use Rattle.hold_netlist.proofs.names_seed.add_insts.Given as goal
 
 -- what is left makes the seed of all

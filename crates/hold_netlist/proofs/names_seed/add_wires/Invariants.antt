@@ -1,6 +1,7 @@
 use Rattle.std.proofs.Common.{◌≡◌, drop}
 use Rattle.hold_netlist.specs.Names.{wire_names}
-use Rattle.hold_netlist.specs.Seed.{start_of, with_texts}
+use Rattle.hold_netlist.specs.Seed.{start_of}
+use Rattle.hold_netlist.specs.inner.Seed.{with_texts}
 use Rattle.hold_netlist.proofs.names_seed.add_wires.Given as goal
 
 -- what is left makes the seed of all

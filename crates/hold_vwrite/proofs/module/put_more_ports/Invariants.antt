@@ -1,7 +1,7 @@
 use Rattle.std.proofs.Common.{◌≡◌, ◌++◌, drop, map}
 use Rattle.hold_netlist.specs.CanonicalText.{spelled}
 use Rattle.hold_netlist.specs.Names.{port_names}
-use Rattle.hold_vwrite.specs.Joined.{each_after_comma}
+use Rattle.hold_vwrite.specs.inner.Joined.{each_after_comma}
 use Rattle.hold_vwrite.proofs.module.put_more_ports.Given as goal
 
 abbrev pub invariant-loop-port : goal.invariant-loop-port

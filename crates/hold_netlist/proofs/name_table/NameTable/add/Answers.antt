@@ -1,6 +1,8 @@
 use Rattle.std.proofs.Common.{ap, sym, ◌∙◌, is_some, not}
+use Rattle.hold_base.proofs.Options.{none-is_some}
+use Rattle.hold_base.proofs.Results.{OnErr-given}
 use Rattle.hold_netlist.specs.NameTable.{number_of}
-use Rattle.hold_netlist.proofs.NameTableLemmas.{number_of_entries, none_of, on_refusal, added_pair}
+use Rattle.hold_netlist.proofs.NameTableLemmas.{number_of_entries, added_pair}
 use Rattle.hold_netlist.proofs.name_table.NameTable.add.Goals as goal
 
 pub returns-then-contains_key-clause-new : goal.returns-then-contains_key-clause-new
@@ -21,9 +23,9 @@ returns-clause-added c =
 pub returns-in_err-key-clause-known : goal.returns-in_err-key-clause-known
 returns-in_err-key-clause-known c =
     let at = number_of_entries c.args.name.now c.self.inside.numbers.entries ∙ ap (number_of c.args.name.now) c.self.view_is in
-    on_refusal _ (none_of _ (sym c.if-contains_key.false ∙ c.contains_key.ensures ∙ ap is_some at))
+    OnErr-given _ (none-is_some _ (ap is_some (sym at) ∙ sym c.contains_key.ensures ∙ c.if-contains_key.false))
 
 pub returns-in_err-insert-clause-known : goal.returns-in_err-insert-clause-known
 returns-in_err-insert-clause-known c =
     let at = number_of_entries c.args.name.now c.self.inside.numbers.entries ∙ ap (number_of c.args.name.now) c.self.view_is in
-    on_refusal _ (none_of _ (sym c.if-contains_key.false ∙ c.contains_key.ensures ∙ ap is_some at))
+    OnErr-given _ (none-is_some _ (ap is_some (sym at) ∙ sym c.contains_key.ensures ∙ c.if-contains_key.false))
