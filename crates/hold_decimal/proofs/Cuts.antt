@@ -1,24 +1,17 @@
 -- Cuts: the one way in which a text falls into the parts of a number.
-use Rattle.std.proofs.Common.{◌≡◌, ℕ, suc, ◌+◌, ◌-◌, ◌*◌, ◌^◌, ◌<◌, ◌≤◌, ◌⊎◌, Bool, true, false, min, Option, Some, None, ◌≢◌, List, [], ◌∷◌, ◌++◌, length, take, drop, refl, ap, sym, subst, ◌∙◌, arith, take-append-drop, append-nil, inl, inr, add-one}
+use Rattle.std.proofs.Common.{◌≡◌, ℕ, suc, ◌+◌, ◌-◌, ◌*◌, ◌^◌, ◌≤◌, ◌⊎◌, Bool, true, false, min, Option, Some, None, ◌≢◌, List, [], ◌∷◌, ◌++◌, length, take, drop, refl, ap, sym, subst, ◌∙◌, arith, take-append-drop, append-nil, inl, inr, add-one}
 use Rattle.std.proofs.lemmas.List.{take_all}
 use Rattle.std.proofs.Math.Seq.{take-append_seam, drop-append_seam}
 use Rattle.std.proofs.lemmas.Bool.{eqb-true, eq-eqb}
 use Rattle.std.proofs.lemmas.Bool.Decides.{nat_tests}
 use Rattle.std.specs.Char.{is_ascii_digit}
 use Rattle.std.specs.Prelude.{IfNone, ◌==◌, ◌||◌, if◌then◌else◌}
-use Rattle.hold_decimal.proofs.Digits.{ten-mono, number_of-below}
-use Rattle.hold_decimal.specs.Numeral.{AllDigits, number_of, IsSign, IsPoint, IsPower, IsExponent, Numeral, Spells}
-use Rattle.hold_decimal.specs.Reading.{leading, front_digits, after_digits, begins_with, after_sign, part_of, after_part}
-
-is_digit : (b : ℕ) → 48 ≤ b → b ≤ 57 → is_ascii_digit b ≡ true
-is_digit b low high = grind (arith, nat_tests)
-
-digit-is : (b : ℕ) → is_ascii_digit b ≡ true → (48 ≤ b) × (b ≤ 57)
-digit-is b h = grind (arith, nat_tests)
-
-not_digit : (b : ℕ) → (b < 48) ⊎ (57 < b) → is_ascii_digit b ≡ false
-not_digit b (inl low) = grind (arith, nat_tests)
-not_digit b (inr high) = grind (arith, nat_tests)
+use Rattle.hold_base.specs.Limits.{time_limit}
+use Rattle.hold_base.proofs.Digits.{is_ascii_digit-within, is_ascii_digit-bounds, is_ascii_digit-outside, ten-mono}
+use Rattle.hold_decimal.proofs.Digits.{number_of-below}
+use Rattle.hold_decimal.specs.Numeral.{AllDigits, IsSign, IsPoint, IsPower, IsExponent, Numeral, Spells}
+use Rattle.hold_base.specs.Digits.{number_of}
+use Rattle.hold_decimal.specs.inner.Reading.{leading, front_digits, after_digits, begins_with, after_sign, part_of, after_part}
 
 -- the digits in front are digits
 pub leading-digits : (xs : List ℕ) → AllDigits (take (leading xs) xs)
@@ -26,13 +19,13 @@ leading-digits [] = tt
 leading-digits (x ∷ xs) = by_first (leading-digits xs) (is_ascii_digit x) refl
   where
     by_first : AllDigits (take (leading xs) xs) → (b : Bool) → is_ascii_digit x ≡ b → AllDigits (take (if b then leading xs + 1 else 0) (x ∷ xs))
-    by_first rest true e = rw add-one ((digit-is x e).0, (digit-is x e).1, rest)
+    by_first rest true e = rw add-one ((is_ascii_digit-bounds x e).0, (is_ascii_digit-bounds x e).1, rest)
     by_first rest false e = tt
 
 -- digits in front are counted all
 pub leading-append : (ds xs : List ℕ) → AllDigits ds → leading (ds ++ xs) ≡ length ds + leading xs
 leading-append [] xs d = omega arith
-leading-append (b ∷ ds) xs d = rw (is_digit b d.0 d.1) (omega (arith, leading-append ds xs d.2))
+leading-append (b ∷ ds) xs d = rw (is_ascii_digit-within b d.0 d.1) (omega (arith, leading-append ds xs d.2))
 
 pub leading_within : (xs : List ℕ) → leading xs ≤ length xs
 leading_within [] = omega arith
@@ -98,8 +91,8 @@ EndsDigits-exponent (b ∷ bs) raise lower h = h.0
 
 leading-end : (rest : List ℕ) → EndsDigits rest → leading rest ≡ 0
 leading-end [] h = refl
-leading-end (b ∷ bs) (inl h) = rw (not_digit b (inr (omega arith))) refl
-leading-end (b ∷ bs) (inr h) = rw (not_digit b (inr (omega arith))) refl
+leading-end (b ∷ bs) (inl h) = rw (is_ascii_digit-outside b (inr (omega arith))) refl
+leading-end (b ∷ bs) (inr h) = rw (is_ascii_digit-outside b (inr (omega arith))) refl
 
 part_of-end : (rest : List ℕ) → EndsDigits rest → part_of rest ≡ []
 part_of-end [] h = refl
@@ -130,7 +123,7 @@ after_part-point (b ∷ c ∷ more) part rest h d e = absurd h
 
 leading-point : (point part rest : List ℕ) → IsPoint point part → EndsDigits rest → leading (point ++ (part ++ rest)) ≡ 0
 leading-point [] part rest h e = rw h (leading-end rest e)
-leading-point (b ∷ []) part rest h e = rw (not_digit b (inl (omega arith))) refl
+leading-point (b ∷ []) part rest h e = rw (is_ascii_digit-outside b (inl (omega arith))) refl
 leading-point (b ∷ c ∷ more) part rest h e = absurd h
 
 without_sign : (whole point part rest : List ℕ) → AllDigits whole → IsPoint point part → 1 ≤ length whole + length part → BeginsWithoutSign (whole ++ (point ++ (part ++ rest)))
@@ -298,7 +291,7 @@ no_power [] None some h = absurd (omega arith)
 no_power (b ∷ bs) None some h = λ raise lower e. h raise lower (subst (λ t. IsPower t raise lower) (sym (take_all (suc (length bs) - 1) bs (omega arith))) e.1)
 
 -- a count of up to three digits stays below the limit
-pub small_count : (digits : List ℕ) (n : ℕ) → AllDigits digits → length digits ≤ 3 → n ≡ min (0 * 10 ^ length digits + number_of digits) 10000000001 → (n ≡ number_of digits) × (n ≤ 999)
+pub small_count : (digits : List ℕ) (n : ℕ) → AllDigits digits → length digits ≤ 3 → n ≡ min (0 * 10 ^ length digits + number_of digits) (time_limit + 1) → (n ≡ number_of digits) × (n ≤ 999)
 small_count digits n d short e =
     let bound = number_of-three digits d short in
     (omega arith, omega arith)

@@ -3,18 +3,9 @@ use Rattle.std.proofs.Common.{◌≡◌, ℕ, suc, zero, ◌+◌, ◌-◌, ◌*�
 use Rattle.std.proofs.Math.Nat.{pow-suc, mul-le-mul, mul-le-mul_right, mul-le-mul_left, mul-lt-mul_of_pos_right}
 use Rattle.std.proofs.lemmas.Nat.{pow-add}
 use Rattle.std.proofs.lemmas.Bool.{cases_lt}
-use Rattle.hold_decimal.specs.Numeral.{AllDigits, number_of}
-
--- a power of ten is above 0
-pub ten-pos : (k : ℕ) → 0 < 10 ^ k
-ten-pos zero = omega arith
-ten-pos (suc k) = omega (arith, ten-pos k, pow-suc 10 k)
-
--- it grows with its exponent
-pub ten-mono : (i j : ℕ) → i ≤ j → 10 ^ i ≤ 10 ^ j
-ten-mono i j h =
-    let split : 10 ^ j ≡ 10 ^ i * 10 ^ (j - i) = ap (λ n. 10 ^ n) (let e : j ≡ i + (j - i) = omega arith in e) ∙ pow-add 10 i (j - i) in
-    omega (arith, split, mul-le-mul_left (10 ^ i) (ten-pos (j - i)))
+use Rattle.hold_decimal.specs.Numeral.{AllDigits}
+use Rattle.hold_base.specs.Digits.{number_of}
+use Rattle.hold_base.proofs.Digits.{ten-pos, ten-split, ten-mono}
 
 -- the digits in front count as many tens more as there are digits behind
 pub number_of-append : (xs ys : List ℕ) → number_of (xs ++ ys) ≡ number_of xs * 10 ^ length ys + number_of ys
@@ -67,10 +58,6 @@ capped_digit count digit more rest limit =
 pub record IsParted (value denominator whole rest : ℕ) : Type 0 where
   pub sum : value ≡ whole * denominator + rest
   pub below : rest < denominator
-
--- a difference of exponents
-ten-split : (i j : ℕ) → i ≤ j → 10 ^ j ≡ 10 ^ (j - i) * 10 ^ i
-ten-split i j h = ap (λ n. 10 ^ n) (let e : j ≡ (j - i) + i = omega arith in e) ∙ pow-add 10 (j - i) i
 
 -- the two sums below, over plain numbers
 sum_less : (all front back tens lost up down one : ℕ) → all ≡ front * tens + back → front * tens ≡ front * lost → down ≡ lost * up → one ≡ 1 → all * up ≡ front * one * down + back * up

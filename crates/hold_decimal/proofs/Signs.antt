@@ -4,7 +4,7 @@ use Rattle.std.proofs.Math.Nat.{lt_of_mul-lt-mul_right}
 use Rattle.std.specs.Prelude.{ℤ, pos, negsuc, neg_ℤ, ◌+ℤ◌, ◌-ℤ◌, ◌*ℤ◌, ◌<ℤ◌}
 use Rattle.std.proofs.lemmas.Int.{ints}
 use Rattle.hold_decimal.specs.Rounding.{Fraction, signed_fraction, IsFloor, IsCeiling}
-use Rattle.hold_decimal.specs.Reading.{IsOutward}
+use Rattle.hold_decimal.specs.inner.Reading.{IsOutward}
 
 neg-times : (a d : ℕ) → neg_ℤ (pos a) *ℤ pos d ≡ neg_ℤ (pos (a * d))
 neg-times zero d = omega (arith, ints)

@@ -1,3 +1,3 @@
 pub mod Numeral
-pub mod Reading
 pub mod Rounding
+pub mod inner

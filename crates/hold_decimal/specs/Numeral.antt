@@ -1,7 +1,6 @@
 -- The text of a decimal number.
 --
 -- AllDigits bytes: each byte is one of '0' to '9'; so too where there is none.
--- number_of bytes: the number that decimal digits write; no digits write 0, and leading zeros count for nothing.
 -- Numeral: the parts of a number: whether it has a minus sign, the digits before the point and those after it (either may be
 --   none), and the power of ten that its exponent raises or lowers it by (of a number that is spelled one of the two is 0;
 --   without an exponent both are).
@@ -12,17 +11,13 @@
 -- IsExponent text raise lower: nothing, and both are 0; or an `e` or `E` and a power.
 -- Spells text n: the text is n's sign, the digits before the point, the point, the digits after it and the exponent, with at
 --   least one digit beside the point; `.` and the empty text spell nothing.
-use Rattle.std.specs.Prelude.{◌≡◌, ℕ, ◌+◌, ◌-◌, ◌*◌, ◌^◌, ◌≤◌, ◌⊎◌, Bool, true, false, if◌then◌else◌, List, [], ◌∷◌, ◌++◌, length}
+use Rattle.std.specs.Prelude.{◌≡◌, ℕ, ◌+◌, ◌≤◌, ◌⊎◌, Bool, true, false, if◌then◌else◌, List, [], ◌∷◌, ◌++◌, length}
+use Rattle.hold_base.specs.Digits.{number_of}
 
 -- each byte is one from '0' (48) to '9' (57)
 abbrev pub AllDigits : List ℕ → Type 0
 AllDigits [] = Unit {0}
 AllDigits (b ∷ bs) = (48 ≤ b) × (b ≤ 57) × AllDigits bs
-
--- each digit counts ten times as much as the one behind it
-abbrev pub number_of : List ℕ → ℕ
-number_of [] = 0
-number_of (b ∷ bs) = (b - 48) * 10 ^ length bs + number_of bs
 
 -- the parts of a number
 pub record Numeral : Type 0 where

@@ -6,12 +6,14 @@
 -- fraction_of n scale: the number's exact value times 10 ^ scale: all its digits, with its sign, times the powers that raise it, over
 --   the powers that lower it and one ten for each digit after the point. `-0.0` has the value 0.
 -- IsFloor f n: n is the greatest whole number that is at most f. IsCeiling f n: the least that is at least f.
--- IsBeyond n: n passes 10 ^ 10 in magnitude; 10 ^ 10 itself doesn't, on either side.
+-- IsBeyond n: n passes the limit of times, 10 ^ 10, in magnitude; the limit itself doesn't, on either side.
 -- PassesLimit f: the floor or the ceiling of f does.
 -- IsTime text scale i: the text spells a number whose value lies in i, each end the nearest whole number outward and none beyond the limit.
 use Rattle.std.specs.Prelude.{ℕ, ◌+◌, ◌*◌, ◌^◌, ◌<◌, ◌≤◌, ◌⊎◌, Bool, if◌then◌else◌, List, ◌++◌, length, ℤ, pos, neg_ℤ, ◌+ℤ◌, ◌-ℤ◌, ◌*ℤ◌, ◌≤ℤ◌, ◌<ℤ◌, unsigned_abs}
 use Rattle.hold_base.specs.declared.time.Interval.{Interval}
-use Rattle.hold_decimal.specs.Numeral.{Numeral, Spells, number_of}
+use Rattle.hold_decimal.specs.Numeral.{Numeral, Spells}
+use Rattle.hold_base.specs.Digits.{number_of}
+use Rattle.hold_base.specs.Limits.{time_limit}
 
 -- a whole number over a denominator
 pub record Fraction : Type 0 where
@@ -41,9 +43,9 @@ pub record IsCeiling (f : Fraction) (n : ℤ) : Type 0 where
   pub at_least : f.numerator ≤ℤ (n *ℤ pos f.denominator)
   pub last_below : ((n -ℤ pos 1) *ℤ pos f.denominator) <ℤ f.numerator
 
--- past 10 ^ 10 in magnitude
+-- past the limit in magnitude
 abbrev pub IsBeyond : ℤ → Type 0
-IsBeyond n = 10 ^ 10 < unsigned_abs n
+IsBeyond n = time_limit < unsigned_abs n
 
 -- the floor or the ceiling is beyond the limit
 abbrev pub PassesLimit : Fraction → Type 0
@@ -55,5 +57,5 @@ pub record IsTime (text : List ℕ) (scale : ℕ) (i : Interval) : Type 0 where
   pub spelled : Spells text numeral
   pub floor : IsFloor (fraction_of numeral scale) i.least
   pub ceiling : IsCeiling (fraction_of numeral scale) i.greatest
-  pub least_within : unsigned_abs i.least ≤ 10 ^ 10
-  pub greatest_within : unsigned_abs i.greatest ≤ 10 ^ 10
+  pub least_within : unsigned_abs i.least ≤ time_limit
+  pub greatest_within : unsigned_abs i.greatest ≤ time_limit

@@ -1,11 +1,12 @@
 ghost use Rattle.std.specs.Prelude.{◌≡◌, ◌≤◌, ◌↔◌, if◌then◌else◌, pos, neg_ℤ, IfOk};
 ghost use Rattle.hold_base.specs.declared.time.Interval.{Interval};
 ghost use Rattle.hold_base.specs.Interval.{IsOrdered};
+ghost use Rattle.hold_base.specs.Limits.{time_limit};
 ghost use Rattle.hold_decimal.specs.Numeral.{Numeral, Spells};
 ghost use Rattle.hold_decimal.specs.Rounding.{fraction_of, IsFloor, IsCeiling, PassesLimit, IsTime};
 
 use crate::numeral::read_parts;
-use crate::rounding::{Bounds, LIMIT, bounds_of};
+use crate::rounding::{Bounds, bounds_of};
 use crate::scale::Scale;
 use hold_base::Interval;
 use thiserror::Error;
@@ -55,8 +56,8 @@ pub fn to_fs(number: &[u8], scale: Scale) -> Result<Interval, NumberFault>
 
 // Below 0 the ends change places.
 fn with_sign(negative: bool, bounds: Bounds) -> Interval
-    requires floor { bounds.floor ≤ LIMIT }
-    requires ceiling { bounds.ceiling ≤ LIMIT }
+    requires floor { bounds.floor ≤ time_limit }
+    requires ceiling { bounds.ceiling ≤ time_limit }
     ensures least { result.least ≡ (if negative then neg_ℤ (pos bounds.ceiling) else pos bounds.floor) }
     ensures greatest { result.greatest ≡ (if negative then neg_ℤ (pos bounds.floor) else pos bounds.ceiling) }
     ensures ordered { IsOrdered result }

@@ -1,6 +1,6 @@
 ghost use Rattle.std.specs.Prelude.{◌≡◌, ℕ, ◌+◌, ◌≤◌, ◌↔◌, IsTrue, IfSome, IfNone, length};
-ghost use Rattle.hold_decimal.specs.Numeral.{AllDigits, IsPower, IsExponent, Numeral, Spells, number_of};
-ghost use Rattle.hold_decimal.specs.Reading.{leading, front_digits, after_digits, begins_with, after_sign, part_of, after_part};
+ghost use Rattle.hold_decimal.specs.Numeral.{AllDigits, IsPower, IsExponent, Numeral, Spells};
+ghost use Rattle.hold_decimal.specs.inner.Reading.{leading, front_digits, after_digits, begins_with, after_sign, part_of, after_part};
 
 use crate::rounding::counted_on;
 

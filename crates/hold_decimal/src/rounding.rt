@@ -1,12 +1,16 @@
 ghost use Rattle.std.specs.Prelude.{◌≡◌, ℕ, ◌+◌, ◌-◌, ◌*◌, ◌^◌, ◌<◌, ◌≤◌, ◌↔◌, ◌++◌, min, if◌then◌else◌, IsTrue, IfSome, IfNone, length};
-ghost use Rattle.hold_decimal.specs.Numeral.{AllDigits, number_of};
-ghost use Rattle.hold_decimal.specs.Reading.{IsCutOff, IsOutward};
+ghost use Rattle.hold_decimal.specs.Numeral.{AllDigits};
+ghost use Rattle.hold_base.specs.Digits.{number_of};
+ghost use Rattle.hold_base.specs.Limits.{time_limit};
+ghost use Rattle.hold_decimal.specs.inner.Reading.{IsCutOff, IsOutward};
 
-/// The greatest magnitude of a time, in fs.
-pub const LIMIT: u64 = 10_000_000_000;
+use hold_base::limits;
+
+/// The greatest magnitude of a time.
+const LIMIT: u64 = limits::TIME as u64;
 
 /// Where counting stops: what is past the limit is refused, whatever it is.
-const PAST_LIMIT: u64 = 10_000_000_001;
+const PAST_LIMIT: u64 = LIMIT + 1;
 
 /// The whole numbers beside a magnitude.
 #[derive(Clone, Copy)]
@@ -18,9 +22,9 @@ pub struct Bounds {
 
 /// The count, made ten times as great by each digit and the digit added, or one past the limit where that is more.
 pub fn counted_on(count: u64, digits: &[u8]) -> u64
-    requires within { count ≤ PAST_LIMIT }
+    requires within { count ≤ time_limit + 1 }
     requires digits { AllDigits digits.now }
-    ensures { result ≡ min (count * 10 ^ length digits.now + number_of digits.now) PAST_LIMIT }
+    ensures { result ≡ min (count * 10 ^ length digits.now + number_of digits.now) (time_limit + 1) }
 {
     let mut count = count;
     for digit in digits {
@@ -32,8 +36,8 @@ pub fn counted_on(count: u64, digits: &[u8]) -> u64
 // The count with zeros behind it, or one past the limit where it is more.
 #[tactic(auto, using(crate::proofs::Digits::capped_zero))]
 fn with_zeros(count: u64, zeros: usize) -> u64
-    requires { count ≤ PAST_LIMIT }
-    ensures { result ≡ min (count * 10 ^ zeros) PAST_LIMIT }
+    requires { count ≤ time_limit + 1 }
+    ensures { result ≡ min (count * 10 ^ zeros) (time_limit + 1) }
 {
     let mut count = count;
     for _zero in 0..zeros {
@@ -58,7 +62,7 @@ fn are_zeros(digits: &[u8]) -> bool
 fn floor_of(whole: &[u8], part: &[u8], zeros: usize) -> u64
     requires whole_digits { AllDigits whole.now }
     requires part_digits { AllDigits part.now }
-    ensures { result ≡ min (number_of (whole.now ++ part.now) * 10 ^ zeros) PAST_LIMIT }
+    ensures { result ≡ min (number_of (whole.now ++ part.now) * 10 ^ zeros) (time_limit + 1) }
 {
     with_zeros(counted_on(counted_on(0, whole), part), zeros)
 }
@@ -105,11 +109,11 @@ fn loses_zeros(cut: &Cut) -> bool
 
 // A floor and the ceiling above it, which is the next number where the value isn't whole. None where that is past the limit.
 fn within_limit(floor: u64, is_whole: bool) -> Option<Bounds>
-    requires { floor ≤ PAST_LIMIT }
+    requires { floor ≤ time_limit + 1 }
     ensures floor { IfSome result (λ b. b.floor ≡ floor) }
     ensures ceiling { IfSome result (λ b. b.ceiling ≡ (if is_whole then floor else floor + 1)) }
-    ensures within { IfSome result (λ b. b.ceiling ≤ LIMIT) }
-    ensures none { IfNone result (LIMIT < (if is_whole then floor else floor + 1)) }
+    ensures within { IfSome result (λ b. b.ceiling ≤ time_limit) }
+    ensures none { IfNone result (time_limit < (if is_whole then floor else floor + 1)) }
 {
     let ceiling = if is_whole { floor } else { floor + 1 };
     if ceiling > LIMIT {
@@ -123,8 +127,8 @@ pub fn bounds_of(whole: &[u8], part: &[u8], up: usize, down: usize) -> Option<Bo
     requires whole_digits { AllDigits whole.now }
     requires part_digits { AllDigits part.now }
     ensures beside { IfSome result (λ b. IsOutward (number_of (whole.now ++ part.now) * 10 ^ up) (10 ^ down) b.floor b.ceiling) }
-    ensures within { IfSome result (λ b. b.ceiling ≤ LIMIT) }
-    ensures none { IfNone result ((floor ceiling : ℕ) × IsOutward (number_of (whole.now ++ part.now) * 10 ^ up) (10 ^ down) floor ceiling × (LIMIT < ceiling)) }
+    ensures within { IfSome result (λ b. b.ceiling ≤ time_limit) }
+    ensures none { IfNone result ((floor ceiling : ℕ) × IsOutward (number_of (whole.now ++ part.now) * 10 ^ up) (10 ^ down) floor ceiling × (time_limit < ceiling)) }
 {
     let cut = cut_off(whole, part, down.saturating_sub(up));
     let floor = floor_of(cut.whole, cut.part, up.saturating_sub(down));

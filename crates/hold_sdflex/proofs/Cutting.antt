@@ -1,8 +1,8 @@
 -- The pieces of a text, kept while a loop goes over it: those that are found, and then those of what is left,
 -- are the whole text's.
-use Rattle.std.proofs.Common.{◌≡◌, ℕ, zero, suc, ◌+◌, ◌-◌, ◌<◌, ◌≤◌, List, [], ◌∷◌, ◌++◌, length, get_or, drop, refl, sym, ap, ◌∙◌, add-zero, append_assoc, append-nil, arith}
+use Rattle.std.proofs.Common.{◌≡◌, ℕ, zero, suc, ◌+◌, ◌-◌, ◌<◌, List, [], ◌∷◌, ◌++◌, length, get_or, drop, refl, sym, ap, ◌∙◌, add-zero, append_assoc, arith}
 use Rattle.std.specs.Prelude.{Option, None, Some, option_map}
-use Rattle.std.proofs.lemmas.List.{at_drop_more, at_drop_all, drop-drop}
+use Rattle.std.proofs.lemmas.List.{at_drop_more, drop-drop}
 use Rattle.hold_sdflex.specs.Front.{Front, front_of}
 use Rattle.hold_sdflex.specs.Pieces.{Marked, pieces_of, pieces_from}
 
@@ -11,12 +11,12 @@ abbrev pub before : List Marked → Option (List Marked) → Option (List Marked
 before front None = None
 before front (Some rest) = Some (front ++ rest)
 
-pub before-map : (front more : List Marked) (o : Option (List Marked)) → before front (option_map (λ ps. more ++ ps) o) ≡ before (front ++ more) o
+before-map : (front more : List Marked) (o : Option (List Marked)) → before front (option_map (λ ps. more ++ ps) o) ≡ before (front ++ more) o
 before-map front more None = refl
 before-map front more (Some rest) = ap Some (sym (append_assoc front more rest))
 
 -- what is passed over
-pub pieces_from-skip : (bytes : List ℕ) (skip at : ℕ) → pieces_from bytes skip at ≡ pieces_from (drop skip bytes) 0 (at + skip)
+pieces_from-skip : (bytes : List ℕ) (skip at : ℕ) → pieces_from bytes skip at ≡ pieces_from (drop skip bytes) 0 (at + skip)
 pieces_from-skip [] zero at = refl
 pieces_from-skip [] (suc skip) at = refl
 pieces_from-skip (b ∷ bytes) zero at = ap (pieces_from (b ∷ bytes) 0) (sym (add-zero at))
@@ -34,6 +34,3 @@ module _ (text : List ℕ) (at d : ℕ) (within : at < length text) where
       let rest : pieces_from (drop (at + 1) text) (front.len - 1) (at + 1) ≡ pieces_from (drop (at + front.len) text) 0 (at + front.len) =
       pieces_from-skip (drop (at + 1) text) (front.len - 1) (at + 1) ∙ rw (drop-drop (front.len - 1) (at + 1) text, place) refl in
       rw (at_drop_more (λ bs. pieces_from bs 0 at) text at d within, is, rest) (before-map found (pieces_of front.mark at (at + front.len)) _)
-
-pub all_found : (text : List ℕ) (at : ℕ) (found : List Marked) → length text ≤ at → before found (pieces_from (drop at text) 0 at) ≡ Some found
-all_found text at found past = rw (at_drop_all (λ bs. pieces_from bs 0 at) text at past) (ap Some (append-nil found))

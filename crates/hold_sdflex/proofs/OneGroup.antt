@@ -11,9 +11,9 @@ use Rattle.hold_sdflex.specs.declared.piece.Piece.{Piece}
 use Rattle.hold_sdflex.specs.Front.{Mark, opens, closes}
 use Rattle.hold_sdflex.specs.Pieces.{Marked, pieces_of_text}
 use Rattle.hold_sdflex.specs.Nesting.{inside, marks, paired, mark_in, depth_over}
-use Rattle.hold_sdflex.specs.Waiting.{shown}
+use Rattle.hold_sdflex.specs.inner.Waiting.{shown}
 use Rattle.hold_sdflex.specs.Groups.{paired_pieces, after_group, stray, group_or_fault, group_of, form_at, IsGroup, AreOneGroup, AreInOrder}
-use Rattle.hold_sdflex.proofs.Options.{map_some}
+use Rattle.hold_base.proofs.Options.{option_map-None, option_map-Some}
 use Rattle.hold_sdflex.proofs.Rising.{AreRising, pieces_from-rising, rising_fit, rising-in_order}
 use Rattle.hold_sdflex.proofs.Partners.{inside-nested, inside-balanced, paired_shown, closing_of}
 
@@ -46,7 +46,7 @@ close_at None is = cc
 close_at (Some p) is = ap Some (close_in p.form (cc is))
 
 form_at_within : (ps : List Piece) (i : ℕ) (form : Form) → form_at ps i ≡ Some form → i < length ps
-form_at_within ps i form is = let found = map_some (λ (p : Piece). p.form) (slice_get ps i) form is in slice_get_within ps i found.0 found.1
+form_at_within ps i form is = let found = option_map-Some (λ (p : Piece). p.form) (slice_get ps i) form is in slice_get_within ps i found.0 found.1
 
 -- paired pieces, where a later group's end is found by the marks
 module _ (was : List Marked) (ps : List Piece) (is_paired : paired was 0 ≡ Some ps) where
@@ -104,15 +104,11 @@ no_stray p ps Colon is none within = cc
 no_stray p ps Text is none within = cc
 no_stray p ps Atom is none within = cc
 
-map_none : {A B : Type 0} (f : A → B) (o : Option A) → option_map f o ≡ None → o ≡ None
-map_none f None is = refl
-map_none f (Some x) is = cc
-
 -- paired pieces without a stray one are one group
 one_group : (was : List Marked) (p : Piece) (ps : List Piece) → paired was 0 ≡ Some (p ∷ ps) → stray (p ∷ ps) ≡ None → AreOneGroup (p ∷ ps)
 one_group was p ps is none =
     record {
-      whole = ap Some (no_stray p ps p.form refl (map_none (λ q. q.from) (slice_get (p ∷ ps) (after_group p.form)) none) (λ c begins. form_at_within (p ∷ ps) c Close (group_at was (p ∷ ps) is 0 c (ap Some begins)).closes));
+      whole = ap Some (no_stray p ps p.form refl (option_map-None (λ q. q.from) (slice_get (p ∷ ps) (after_group p.form)) none) (λ c begins. form_at_within (p ∷ ps) c Close (group_at was (p ∷ ps) is 0 c (ap Some begins)).closes));
       groups = group_at was (p ∷ ps) is;
       nested = nested_at was (p ∷ ps) is;
     }

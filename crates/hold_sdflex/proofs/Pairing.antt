@@ -1,60 +1,14 @@
--- The closings that wait, as one piece more comes to stand before the list.
-use Rattle.std.proofs.Common.{◌≡◌, ℕ, zero, suc, ◌+◌, ◌<◌, ◌≤◌, List, [], ◌∷◌, ◌++◌, length, get_or, set, take, drop, reverse, refl, sym, ap, ◌∙◌, add-zero, arith}
-use Rattle.std.specs.Prelude.{Option, None, Some, option_map, option_and_then, slice_get}
-use Rattle.std.proofs.lemmas.List.{at_drop_more, reverse-append, length-set, take-set, take-take, drop-set, get_or-take}
+-- Pieces paired from the last one on, as one piece more comes to stand before the list.
+use Rattle.std.proofs.Common.{◌≡◌, ℕ, zero, suc, ◌+◌, ◌<◌, ◌≤◌, List, [], ◌∷◌, length, get_or, set, take, drop, refl, sym, ap, ◌∙◌, add-zero, arith}
+use Rattle.std.specs.Prelude.{Option, None, Some, option_map, option_and_then}
+use Rattle.std.proofs.lemmas.List.{at_drop_more, length-set, take-set, take-take, drop-set, get_or-take}
 use Rattle.hold_sdflex.specs.declared.piece.Form.{Form}
 use Rattle.hold_sdflex.specs.declared.piece.Form.TheVariants.{Open}
 use Rattle.hold_sdflex.specs.declared.piece.Piece.{Piece}
-use Rattle.hold_sdflex.specs.Front.{Mark, opens, closes, colon, string, atom}
+use Rattle.hold_sdflex.specs.Front.{Mark}
 use Rattle.hold_sdflex.specs.Pieces.{Marked}
-use Rattle.hold_sdflex.specs.Nesting.{inside, form_of, marks, paired, mark_in}
-use Rattle.hold_sdflex.specs.Waiting.{shown_piece, shown, AreWaiting}
-
--- the number after another, counted from the place before
-counted : (place : ℕ) (o : Option ℕ) → option_map (λ n. place + n) (option_map suc o) ≡ option_map (λ n. place + 1 + n) o
-counted place None = refl
-counted place (Some n) = ap Some (omega arith)
-
--- a piece that is no parenthesis
-module _ {closings : List ℕ} {after : List Mark} {place : ℕ} (waiting : AreWaiting closings after (place + 1)) where
-  pub waiting-colon : AreWaiting closings (colon ∷ after) place
-  waiting-colon = record { each = λ depth. counted place (inside after depth) ∙ waiting.each depth }
-
-  pub waiting-string : AreWaiting closings (string ∷ after) place
-  waiting-string = record { each = λ depth. counted place (inside after depth) ∙ waiting.each depth }
-
-  pub waiting-atom : AreWaiting closings (atom ∷ after) place
-  waiting-atom = record { each = λ depth. counted place (inside after depth) ∙ waiting.each depth }
-
-  pub waiting-close : AreWaiting (closings ++ place ∷ []) (closes ∷ after) place
-  waiting-close = record { each = each }
-    where
-      each : (depth : ℕ) → option_map (λ n. place + n) (inside (closes ∷ after) depth) ≡ slice_get (reverse (closings ++ place ∷ [])) depth
-      each zero = rw reverse-append (ap Some (add-zero place))
-      each (suc depth) = rw reverse-append (counted place (inside after depth) ∙ waiting.each depth)
-
--- an opening parenthesis takes the closing that waited last
-pub waiting-open : (closings : List ℕ) (close : ℕ) (after : List Mark) (place : ℕ) → AreWaiting (closings ++ close ∷ []) after (place + 1) → AreWaiting closings (opens ∷ after) place
-waiting-open closings close after place waiting = record {
-  each = λ depth. counted place (inside after (suc depth)) ∙ waiting.each (suc depth) ∙ rw reverse-append refl;
-}
-
--- the form that has the place of its closing
-formed : (place : ℕ) (o : Option ℕ) → option_map (λ n. Open (place + 1 + n)) o ≡ option_map (λ close. Open close) (option_map (λ n. place + 1 + n) o)
-formed place None = refl
-formed place (Some n) = refl
-
-pub open_form : (closings : List ℕ) (close : ℕ) (after : List Mark) (place : ℕ) → AreWaiting (closings ++ close ∷ []) after (place + 1) → Some (Open close) ≡ form_of opens place after
-open_form closings close after place waiting =
-    let first : option_map (λ n. place + 1 + n) (inside after 0) ≡ Some close = waiting.each 0 ∙ rw reverse-append refl in
-    sym (formed place (inside after 0) ∙ ap (option_map (λ close. Open close)) first)
-
-pub open_has_no_form : (after : List Mark) (place : ℕ) → AreWaiting [] after (place + 1) → None ≡ form_of opens place after
-open_has_no_form after place waiting =
-    sym (formed place (inside after 0) ∙ ap (option_map (λ close. Open close)) (waiting.each 0))
-
-pub nothing_waits : (place : ℕ) → AreWaiting [] [] place
-nothing_waits place = record { each = λ depth. refl }
+use Rattle.hold_sdflex.specs.Nesting.{form_of, marks, paired, mark_in}
+use Rattle.hold_sdflex.specs.inner.Waiting.{shown_piece, shown, AreWaiting}
 
 -- the marks of pieces, and these paired
 abbrev pub seen : List Piece → List Mark
@@ -64,11 +18,11 @@ abbrev pub paired_shown : List Piece → ℕ → Option (List Piece)
 paired_shown ps place = paired (shown ps) place
 
 -- one piece more is paired
-pub paired_front : (ps rest : List Piece) (i : ℕ) (d p : Piece) (form : Form) → i < length ps → get_or ps i d ≡ p → Some form ≡ form_of (mark_in p.form) i (seen (drop (i + 1) ps)) → paired_shown (drop (i + 1) ps) (i + 1) ≡ Some rest → paired_shown (drop i ps) i ≡ Some (record p { form = form } ∷ rest)
+paired_front : (ps rest : List Piece) (i : ℕ) (d p : Piece) (form : Form) → i < length ps → get_or ps i d ≡ p → Some form ≡ form_of (mark_in p.form) i (seen (drop (i + 1) ps)) → paired_shown (drop (i + 1) ps) (i + 1) ≡ Some rest → paired_shown (drop i ps) i ≡ Some (record p { form = form } ∷ rest)
 paired_front ps rest i d p form within here is found = rw (at_drop_more (λ qs. paired_shown qs i) ps i d within, here, ← is, found) refl
 
 -- a piece without a partner, and those after it
-pub unpaired_front : (ps : List Piece) (i : ℕ) (d p : Piece) → i < length ps → get_or ps i d ≡ p → None ≡ form_of (mark_in p.form) i (seen (drop (i + 1) ps)) → paired_shown (drop i ps) i ≡ None
+unpaired_front : (ps : List Piece) (i : ℕ) (d p : Piece) → i < length ps → get_or ps i d ≡ p → None ≡ form_of (mark_in p.form) i (seen (drop (i + 1) ps)) → paired_shown (drop i ps) i ≡ None
 unpaired_front ps i d p within here is = rw (at_drop_more (λ qs. paired_shown qs i) ps i d within, here, ← is) refl
 
 -- where the end of a list has no pairs, the list has none
@@ -76,7 +30,7 @@ no_rest : (p : Marked) (form : Option Form) → option_and_then {U = List Piece}
 no_rest p None = refl
 no_rest p (Some form) = refl
 
-pub unpaired_end : (ps : List Piece) (i at : ℕ) → paired_shown (drop i ps) (at + i) ≡ None → paired_shown ps at ≡ None
+unpaired_end : (ps : List Piece) (i at : ℕ) → paired_shown (drop i ps) (at + i) ≡ None → paired_shown ps at ≡ None
 unpaired_end ps zero at none = ap (paired_shown ps) (sym (add-zero at)) ∙ none
 unpaired_end [] (suc i) at none = none
 unpaired_end (p ∷ ps) (suc i) at none =

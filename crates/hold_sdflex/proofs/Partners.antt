@@ -9,8 +9,21 @@ use Rattle.hold_sdflex.specs.Front.{Mark, opens, closes, colon, string, atom}
 use Rattle.hold_sdflex.specs.Pieces.{Marked}
 use Rattle.hold_sdflex.specs.Nesting.{depth_after, inside, form_of, marks, paired, mark_in, depth_over}
 use Rattle.hold_sdflex.specs.Groups.{form_at}
-use Rattle.hold_sdflex.specs.Waiting.{shown}
-use Rattle.hold_sdflex.proofs.Options.{map_some, depth_some, depth_none}
+use Rattle.hold_sdflex.specs.inner.Waiting.{shown}
+use Rattle.hold_base.proofs.Options.{option_map-Some}
+
+-- a number above 0 comes from a depth that isn't none
+depth_some : (f : ℕ → Option ℕ) (o : Option ℕ) (m : ℕ) → option_map_or (λ d. option_map suc (f d)) o (Some 0) ≡ Some (suc m) → (d : ℕ) × (o ≡ Some d) × (f d ≡ Some m)
+depth_some f None m is = cc
+depth_some f (Some d) m is = let found = option_map-Some suc (f d) (suc m) is in (d, refl, found.1 ∙ ap Some (suc_injective found.0 m found.2))
+  where
+    suc_injective : (a b : ℕ) → suc a ≡ suc b → a ≡ b
+    suc_injective a b e = omega arith
+
+-- 0 comes from a depth that is none
+depth_none : (f : ℕ → Option ℕ) (o : Option ℕ) → option_map_or (λ d. option_map suc (f d)) o (Some 0) ≡ Some 0 → o ≡ None
+depth_none f None is = refl
+depth_none f (Some d) is = let found = option_map-Some suc (f d) 0 is in absurd (omega (arith, found.2))
 
 -- what is inside, with the depth after the first piece worked out
 abbrev inside_at : List Mark → Option ℕ → Option ℕ
@@ -28,15 +41,15 @@ no_depth atom depth is = cc
 -- a group that has more open groups in it ends later
 deeper_plain : (ps : List Mark) (a b n k : ℕ) → ((n k : ℕ) → inside ps a ≡ Some n → inside ps b ≡ Some k → n < k) → option_map suc (inside ps a) ≡ Some n → option_map suc (inside ps b) ≡ Some k → n < k
 deeper_plain ps a b n k rest first second =
-    let one = map_some suc (inside ps a) n first in
-    let two = map_some suc (inside ps b) k second in
+    let one = option_map-Some suc (inside ps a) n first in
+    let two = option_map-Some suc (inside ps b) k second in
     let less = rest one.0 two.0 one.1 two.1 in
     omega (arith, one.2, two.2, less)
 
 deeper_mark : (mark : Mark) (ps : List Mark) (a b n k : ℕ) → a < b → ((a b n k : ℕ) → a < b → inside ps a ≡ Some n → inside ps b ≡ Some k → n < k) → inside_at ps (depth_after mark a) ≡ Some n → inside_at ps (depth_after mark b) ≡ Some k → n < k
 deeper_mark closes ps a zero n k deeper rest first second = absurd (omega arith)
 deeper_mark closes ps zero (suc b) n k deeper rest first second =
-    let two = map_some suc (inside ps b) k second in
+    let two = option_map-Some suc (inside ps b) k second in
     let is : 0 ≡ n = cc in
     omega (arith, two.2, is)
 deeper_mark closes ps (suc a) (suc b) n k deeper rest first second = deeper_plain ps a b n k (λ n k. rest a b n k (omega arith)) first second
@@ -56,7 +69,7 @@ inside-nested (mark ∷ ms) depth zero j n outer earlier begins inner = absurd (
 inside-nested (mark ∷ ms) depth (suc m) zero n outer earlier begins inner =
     let is : mark ≡ opens = cc in
     let deeper : option_map suc (inside ms (suc depth)) ≡ Some (suc m) = rw is at outer in
-    let found = map_some suc (inside ms (suc depth)) (suc m) deeper in
+    let found = option_map-Some suc (inside ms (suc depth)) (suc m) deeper in
     let less = inside-deeper ms 0 (suc depth) n found.0 (omega arith) inner found.1 in
     omega (arith, less, found.2)
 inside-nested (mark ∷ ms) depth (suc m) (suc j) n outer earlier begins inner =
@@ -89,7 +102,7 @@ mark_kept string form place after is = let e : Text ≡ form = cc in rw (← e) 
 mark_kept atom form place after is = let e : Atom ≡ form = cc in rw (← e) refl
 
 -- the parts of paired pieces
-pub record ArePaired (p : Marked) (ps : List Marked) (qs : List Piece) (place : ℕ) (form : Form) (rest : List Piece) : Type 0 where
+record ArePaired (p : Marked) (ps : List Marked) (qs : List Piece) (place : ℕ) (form : Form) (rest : List Piece) : Type 0 where
   pub first : form_of p.mark place (marks ps) ≡ Some form
   pub others : paired ps (place + 1) ≡ Some rest
   pub whole : record { form = form; from = p.from; to = p.to } ∷ rest ≡ qs

@@ -1,23 +1,24 @@
 -- The pieces of a text lie in it one after another.
 use Rattle.std.proofs.Common.{◌≡◌, ℕ, zero, suc, ◌+◌, ◌-◌, ◌<◌, ◌≤◌, Bool, true, false, List, [], ◌∷◌, ◌++◌, length, drop, refl, sym, ap, ◌∙◌, subst, arith}
-use Rattle.std.specs.Prelude.{Option, None, Some, option_map, option_and_then, unwrap_or, IfSome, position, ◌&&◌, ◌||◌, slice_get, if◌then◌else◌, ◌==◌}
+use Rattle.std.specs.Prelude.{Option, None, Some, option_map, option_and_then, IfSome, position, ◌&&◌, ◌||◌, slice_get, if◌then◌else◌, ◌==◌}
+use Rattle.std.proofs.lemmas.Bool.{cond_both, and_parts}
 use Rattle.std.proofs.lemmas.List.Quantifiers.{position-Some}
+use Rattle.std.proofs.lemmas.List.Sums.{prefix_len-le-length}
 use Rattle.std.proofs.lemmas.Option.{slice_get-map}
+use Rattle.hold_sdflex.specs.declared.front.Front.{Front as FrontRead}
 use Rattle.hold_sdflex.specs.declared.piece.Piece.{Piece}
-use Rattle.hold_sdflex.specs.Front.{Mark, Front, opens, closes, colon, string, atom, newline, opening, closing, quote, star, slash, colon_sign, backslash, is_white, ends_atom, line_rest, block_rest, atom_length, mark_of, piece_length, begins_with, front_of}
-use Rattle.hold_sdflex.specs.Waiting.{atom_left, shown_piece, shown}
+use Rattle.hold_text.specs.Blanks.{quote, star, slash, backslash, is_blank, is_in_line, heads, line_len, comment_end}
+use Rattle.hold_text.proofs.Ends.{EndsWithin, comment_end-within}
+use Rattle.hold_sdflex.specs.Front.{Mark, Front, opens, closes, colon, string, atom, opening, closing, colon_sign, ends_atom, atom_length, mark_of, piece_length, front_of}
+use Rattle.hold_sdflex.specs.inner.Waiting.{atom_left, shown_front, shown_piece, shown}
 use Rattle.hold_sdflex.specs.Pieces.{Marked, pieces_of, pieces_from}
 use Rattle.hold_sdflex.specs.Groups.{AreInOrder}
 use Rattle.hold_sdflex.proofs.Counting.{atom_more}
-use Rattle.hold_sdflex.proofs.Options.{map_some}
+use Rattle.hold_base.proofs.Options.{option_map-Some}
 
 -- a number in an option is at most this
 abbrev AtMost : ℕ → Option ℕ → Type 0
 AtMost most o = IfSome o (λ n. n ≤ most)
-
-at_most_if : (t : Bool) (most : ℕ) (x y : Option ℕ) → AtMost most x → AtMost most y → AtMost most (if t then x else y)
-at_most_if true most x y left right = left
-at_most_if false most x y left right = right
 
 at_most_suc : (most : ℕ) (o : Option ℕ) → AtMost most o → AtMost (suc most) (option_map suc o)
 at_most_suc most None fits = tt
@@ -27,19 +28,14 @@ at_most_twice : (most : ℕ) (o : Option ℕ) → AtMost most o → AtMost (suc 
 at_most_twice most None fits = tt
 at_most_twice most (Some n) fits = omega arith
 
-block_rest_fits : (bytes : List ℕ) → AtMost (length bytes) (block_rest bytes)
-block_rest_fits [] = tt
-block_rest_fits (a ∷ []) = tt
-block_rest_fits (a ∷ b ∷ bytes) =
-    let here : 2 ≤ length (a ∷ b ∷ bytes) = omega arith in
-    at_most_if (a == star && b == slash) _ (Some 2) _ here (at_most_suc (length (b ∷ bytes)) (block_rest (b ∷ bytes)) (block_rest_fits (b ∷ bytes)))
-
 atom_fits : (bytes : List ℕ) → AtMost (length bytes) (atom_length bytes)
 atom_fits [] = omega arith
-atom_fits (b ∷ []) = at_most_if (ends_atom b) _ (Some 0) _ (omega arith) (at_most_if (b == backslash) _ None (Some 1) tt (omega arith))
+atom_fits (b ∷ []) = cond_both (ends_atom b) _ _ (AtMost 1) (λ _. omega arith) (λ _. cond_both (b == backslash) _ _ (AtMost 1) (λ _. tt) (λ _. omega arith))
 atom_fits (b ∷ c ∷ bytes) =
-    at_most_if (ends_atom b) _ (Some 0) _ (omega arith)
-    (at_most_if (b == backslash) _ _ _ (at_most_twice (length bytes) (atom_length bytes) (atom_fits bytes)) (at_most_suc (length (c ∷ bytes)) (atom_length (c ∷ bytes)) (atom_fits (c ∷ bytes))))
+    let P : Option ℕ → Type 0 = AtMost (length (b ∷ c ∷ bytes)) in
+    cond_both (ends_atom b) _ _ P (λ _. omega arith)
+    (λ _. cond_both (b == backslash) _ _ P (λ _. at_most_twice (length bytes) (atom_length bytes) (atom_fits bytes))
+    (λ _. at_most_suc (length (c ∷ bytes)) (atom_length (c ∷ bytes)) (atom_fits (c ∷ bytes))))
 
 place_fits : (p : ℕ → Bool) (bytes : List ℕ) → IfSome (position p bytes) (λ n. n < length bytes)
 place_fits p bytes = found (position p bytes) refl
@@ -52,32 +48,13 @@ place_fits p bytes = found (position p bytes) refl
 abbrev Fits : ℕ → Option Front → Type 0
 Fits rest o = IfSome o (λ front. (0 < front.len) × (front.len ≤ rest + 1))
 
-fits_if : (t : Bool) (rest : ℕ) (x y : Option Front) → Fits rest x → Fits rest y → Fits rest (if t then x else y)
-fits_if true rest x y left right = left
-fits_if false rest x y left right = right
-
-fits_from : (f : ℕ → Front) (rest most : ℕ) (o : Option ℕ) → AtMost most o → ((n : ℕ) → n ≤ most → (0 < (f n).len) × ((f n).len ≤ rest + 1)) → Fits rest (option_map f o)
-fits_from f rest most None bound fits = tt
-fits_from f rest most (Some n) bound fits = fits n bound
-
-line_rest_fits : (bytes : List ℕ) → line_rest bytes ≤ length bytes
-line_rest_fits bytes = bound (position (λ b. b == newline) bytes) (place_fits (λ b. b == newline) bytes)
-  where
-    bound : (o : Option ℕ) → IfSome o (λ n. n < length bytes) → unwrap_or o (length bytes) ≤ length bytes
-    bound None within = omega arith
-    bound (Some n) within = omega arith
-
 -- an atom has a byte, since its first one isn't an end
 atom_filled : (b : ℕ) (rest : List ℕ) → ends_atom b ≡ false → IfSome (atom_length (b ∷ rest)) (λ n. (0 < n) × (n ≤ length rest + 1))
 atom_filled b rest begins = filled (atom_length (b ∷ rest)) (atom_fits (b ∷ rest)) (atom_more b rest begins)
   where
     filled : (o : Option ℕ) → AtMost (suc (length rest)) o → o ≡ option_map suc (atom_left (b == backslash) rest) → IfSome o (λ n. (0 < n) × (n ≤ length rest + 1))
     filled None fits more = tt
-    filled (Some n) fits more = let found = map_some suc (atom_left (b == backslash) rest) n (sym more) in (omega (arith, found.2), omega (arith, fits))
-
-fits_if_not : (t : Bool) (rest : ℕ) (x y : Option Front) → Fits rest x → (t ≡ false → Fits rest y) → Fits rest (if t then x else y)
-fits_if_not true rest x y left right = left
-fits_if_not false rest x y left right = right refl
+    filled (Some n) fits more = let found = option_map-Some suc (atom_left (b == backslash) rest) n (sym more) in (omega (arith, found.2), omega (arith, fits))
 
 ends_not : (white opened closed divided quoted : Bool) → white ≡ false → opened ≡ false → closed ≡ false → divided ≡ false → quoted ≡ false → (white || opened || closed || divided || quoted) ≡ false
 ends_not white opened closed divided quoted a b c d e = rw (a, b, c, d, e) refl
@@ -98,27 +75,35 @@ piece_fits : (mark : Mark) (rest : ℕ) (o : Option ℕ) → IfSome o (λ n. (0 
 piece_fits mark rest None fits = tt
 piece_fits mark rest (Some n) fits = fits
 
-block_fits : (rest : List ℕ) → begins_with star rest ≡ true → Fits (length rest) (option_map (λ n. record { mark = None; len = n + 2 }) (block_rest (drop 1 rest)))
-block_fits [] begins = cc
-block_fits (c ∷ rest) begins = fits_from (λ n. record { mark = None; len = n + 2 }) (suc (length rest)) (length rest) (block_rest rest) (block_rest_fits rest) (λ n bound. (omega arith, omega arith))
+line_fits : (rest : List ℕ) → Fits (length rest) (Some (record { mark = None; len = 1 + line_len rest }))
+line_fits rest = let line = prefix_len-le-length is_in_line rest in (omega arith, omega (arith, line))
 
-line_fits : (rest : List ℕ) → begins_with slash rest ≡ true → Fits (length rest) (Some (record { mark = None; len = line_rest (drop 1 rest) + 2 }))
-line_fits [] begins = cc
-line_fits (c ∷ rest) begins = let line = line_rest_fits rest in (omega arith, omega (arith, line))
+comment_fits : (rest : List ℕ) → heads star rest ≡ true → Fits (length rest) (option_map (λ n. record { mark = None; len = n }) (comment_end 2 (drop 1 rest)))
+comment_fits [] begins = cc
+comment_fits (c ∷ rest) begins = fits (comment_end 2 rest) (comment_end-within 2 rest)
+  where
+    fits : (o : Option ℕ) → EndsWithin 2 rest o → Fits (suc (length rest)) (option_map (λ n. record { mark = None; len = n }) o)
+    fits None ends = tt
+    fits (Some n) ends = (omega (arith, ends.0), omega (arith, ends.1))
 
-fits_and : (s t : Bool) (rest : ℕ) (x y : Option Front) → (t ≡ true → Fits rest x) → Fits rest y → Fits rest (if s && t then x else y)
-fits_and false t rest x y left right = right
-fits_and true false rest x y left right = right
-fits_and true true rest x y left right = left refl
-
-pub front_fits : (b : ℕ) (rest : List ℕ) → Fits (length rest) (front_of b rest)
+front_fits : (b : ℕ) (rest : List ℕ) → Fits (length rest) (front_of b rest)
 front_fits b rest =
-    fits_if_not (is_white b) _ _ _ (omega arith, omega arith)
-    (λ dark. fits_and (b == slash) (begins_with slash rest) _ _ _ (line_fits rest)
-    (fits_and (b == slash) (begins_with star rest) _ _ _ (block_fits rest)
-    (piece_fits (mark_of b) (length rest) (piece_length (mark_of b) (b ∷ rest))
+    let P : Option Front → Type 0 = Fits (length rest) in
+    cond_both (is_blank b) _ _ P (λ _. (omega arith, omega arith))
+    (λ dark. cond_both (b == slash && heads slash rest) _ _ P (λ _. line_fits rest)
+    (λ _. cond_both (b == slash && heads star rest) _ _ P (λ h. comment_fits rest (and_parts (b == slash) (heads star rest) h).1)
+    (λ _. piece_fits (mark_of b) (length rest) (piece_length (mark_of b) (b ∷ rest))
     (length_fits b rest (b == opening) (b == closing) (b == colon_sign) (b == quote)
-    (λ x y z w. atom_filled b rest (ends_not (is_white b) (b == opening) (b == closing) (b == colon_sign) (b == quote) dark x y z w))))))
+    (λ x y z w. atom_filled b rest (ends_not (is_blank b) (b == opening) (b == closing) (b == colon_sign) (b == quote) dark x y z w))))))
+
+-- the same of what the program found there
+pub front_not_empty : (b : ℕ) (rest : List ℕ) (o : Option FrontRead) → option_map shown_front o ≡ front_of b rest → IfSome o (λ front. 0 < front.len)
+front_not_empty b rest None is = tt
+front_not_empty b rest (Some front) is = let fits : Fits (length rest) (Some (shown_front front)) = rw (← is) at (front_fits b rest) in fits.0
+
+pub front_within : (b : ℕ) (rest text : List ℕ) (o : Option FrontRead) → length rest + 1 ≤ length text → option_map shown_front o ≡ front_of b rest → IfSome o (λ front. front.len ≤ length text)
+front_within b rest text None longer is = tt
+front_within b rest text (Some front) longer is = let fits : Fits (length rest) (Some (shown_front front)) = rw (← is) at (front_fits b rest) in omega (arith, fits.1)
 
 -- the pieces lie one after another from `start` up to but without `end`
 abbrev pub AreRising : List Marked → ℕ → ℕ → Type 0

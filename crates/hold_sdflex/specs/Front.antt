@@ -1,27 +1,22 @@
 -- What stands at the front of a text, by cases on its first bytes.
 --
--- newline, quote, star, slash, colon_sign, backslash: these bytes. opening, closing: those of the parentheses.
--- is_white b: white space: a space, a tab, a newline, a carriage return or a form feed.
+-- opening, closing, colon_sign: the bytes of the parentheses and of the colon.
 -- ends_atom b: whether the byte ends an atom, where no backslash takes it: white space, a parenthesis, a colon or a
 --     quote. A comment's sign ends no atom, so `a//b` is one, and a comment opens only where a piece could begin.
 -- Mark: what a piece is by its first byte: an opening or a closing parenthesis (opens, closes), a colon (colon), a
 --     string, which a quote begins (string), or else an atom (atom). mark_of b: the mark of a piece that begins with
 --     this byte.
--- line_rest bytes: how long the rest of a line is: the bytes before the next newline; all of them where there is no
---     newline.
--- block_rest bytes: how long the rest of a block comment is: the bytes up to and with the first `*/`; None where there
---     is no `*/`.
 -- atom_length bytes: how long an atom is: the bytes before its end, where a backslash takes the byte after it, whatever
 --     that is; None where a backslash that isn't taken itself is the last byte of the text.
 -- piece_length mark bytes: how long the piece of this mark is that stands first: one byte for a parenthesis or a colon,
 --     up to and with the next quote for a string; None where a string or an atom has no end.
--- begins_with b bytes: whether the bytes begin with this one; never so where there is none.
 -- Front: what stands at the front of a text: the mark of a piece and its length in bytes; no mark where white space or
 --     a comment stands there instead.
 -- front_of b rest: the front of the text that begins with this byte and goes on with the rest. White space counts byte
---     by byte, a line comment up to its newline. None where a string, a block comment or a backslash that stands there
---     has no end.
-use Rattle.std.specs.Prelude.{ℕ, suc, ◌+◌, Bool, false, ◌==◌, ◌||◌, ◌&&◌, List, [], ◌∷◌, length, drop, Option, None, Some, option_map, unwrap_or, position, if◌then◌else◌}
+--     by byte, a line comment up to its newline, a block comment up to and with its end. None where a string, a block
+--     comment or a backslash that stands there has no end.
+use Rattle.std.specs.Prelude.{ℕ, suc, ◌+◌, Bool, ◌==◌, ◌||◌, ◌&&◌, List, [], ◌∷◌, drop, Option, None, Some, option_map, position, if◌then◌else◌}
+use Rattle.hold_text.specs.Blanks.{quote, star, slash, backslash, is_blank, heads, line_len, comment_end}
 
 pub data Mark : Type 0 where
   opens : Mark
@@ -34,48 +29,18 @@ pub record Front : Type 0 where
   pub mark : Option Mark
   pub len : ℕ
 
-abbrev pub newline : ℕ
-newline = 10
-
-abbrev pub quote : ℕ
-quote = 34
-
 abbrev pub opening : ℕ
 opening = 40
 
 abbrev pub closing : ℕ
 closing = 41
 
-abbrev pub star : ℕ
-star = 42
-
-abbrev pub slash : ℕ
-slash = 47
-
 abbrev pub colon_sign : ℕ
 colon_sign = 58
 
-abbrev pub backslash : ℕ
-backslash = 92
-
--- white space
-abbrev pub is_white : ℕ → Bool
-is_white b = b == 32 || b == 9 || b == newline || b == 13 || b == 12
-
 -- the end of an atom
 abbrev pub ends_atom : ℕ → Bool
-ends_atom b = is_white b || b == opening || b == closing || b == colon_sign || b == quote
-
--- the length of the rest of a line
-abbrev pub line_rest : List ℕ → ℕ
-line_rest bytes = unwrap_or (position (λ b. b == newline) bytes) (length bytes)
-
--- the length of the rest of a block comment
-abbrev pub block_rest : List ℕ → Option ℕ
-block_rest [] = None
-block_rest (a ∷ []) = None
-block_rest (a ∷ b ∷ bytes) =
-    if a == star && b == slash then Some 2 else option_map suc (block_rest (b ∷ bytes))
+ends_atom b = is_blank b || b == opening || b == closing || b == colon_sign || b == quote
 
 -- the length of an atom
 abbrev pub atom_length : List ℕ → Option ℕ
@@ -103,15 +68,10 @@ piece_length colon bytes = Some 1
 piece_length string bytes = option_map (λ n. n + 2) (position (λ b. b == quote) (drop 1 bytes))
 piece_length atom bytes = atom_length bytes
 
--- the bytes begin with this one
-abbrev pub begins_with : ℕ → List ℕ → Bool
-begins_with b [] = false
-begins_with b (first ∷ bytes) = first == b
-
 -- the front of a text of a first byte and the rest
 abbrev pub front_of : ℕ → List ℕ → Option Front
 front_of b rest =
-    if is_white b then Some (record { mark = None; len = 1 })
-    else if b == slash && begins_with slash rest then Some (record { mark = None; len = line_rest (drop 1 rest) + 2 })
-    else if b == slash && begins_with star rest then option_map (λ n. record { mark = None; len = n + 2 }) (block_rest (drop 1 rest))
+    if is_blank b then Some (record { mark = None; len = 1 })
+    else if b == slash && heads slash rest then Some (record { mark = None; len = 1 + line_len rest })
+    else if b == slash && heads star rest then option_map (λ n. record { mark = None; len = n }) (comment_end 2 (drop 1 rest))
     else option_map (λ n. record { mark = Some (mark_of b); len = n }) (piece_length (mark_of b) (b ∷ rest))

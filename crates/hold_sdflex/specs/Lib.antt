@@ -1,5 +1,5 @@
 pub mod Front
 pub mod Pieces
 pub mod Nesting
-pub mod Waiting
 pub mod Groups
+pub mod inner

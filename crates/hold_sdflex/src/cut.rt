@@ -1,6 +1,6 @@
 ghost use Rattle.std.specs.Prelude.{◌≡◌, ◌+◌, ◌^◌, ◌<◌, ◌++◌, length, option_map, OnOk, IfOk};
 ghost use Rattle.hold_sdflex.specs.Pieces.{pieces_of, pieces_of_text};
-ghost use Rattle.hold_sdflex.specs.Waiting.{shown_front, shown};
+ghost use Rattle.hold_sdflex.specs.inner.Waiting.{shown_front, shown};
 
 use crate::front::{Front, front_of};
 use crate::piece::Piece;
@@ -16,7 +16,7 @@ pub(crate) fn pieces_of_text(alloc: Global, text: &[u8]) -> Result<Option<Vec<Pi
     let mut pieces = Vec::new(alloc);
     let mut at = 0;
     while at < text.len() {
-        let Some(front) = front_of(text[at], &text[at + 1..]) else {
+        let Some(front) = front_of(&text[at..]) else {
             return Ok(None);
         };
         push_front(&mut pieces, front, at)?;

@@ -1,17 +1,10 @@
-ghost use Rattle.std.specs.Prelude.{◌≡◌, ◌+◌, ◌^◌, ◌<◌, ◌≤◌, ◌==◌, ◌∷◌, length, position, false, None, Some, option_map, IfSome};
-ghost use Rattle.hold_sdflex.specs.Front.{
-  atom,
-  slash,
-  is_white,
-  ends_atom,
-  line_rest,
-  block_rest,
-  atom_length,
-  front_of,
-};
-ghost use Rattle.hold_sdflex.specs.Waiting.{shown_front, atom_left};
+ghost use Rattle.std.specs.Prelude.{◌≡◌, ℕ, ◌<◌, ◌≤◌, ◌==◌, List, ◌∷◌, length, position, false, None, Some, option_map, IfSome};
+ghost use Rattle.hold_text.specs.Blanks.{is_blank};
+ghost use Rattle.hold_sdflex.specs.Front.{atom, ends_atom, atom_length, mark_of, piece_length, front_of};
+ghost use Rattle.hold_sdflex.specs.inner.Waiting.{shown_front, atom_left};
 
 use crate::piece::Form;
+use hold_text::{comment_end, is_blank, line_len, stands_at};
 
 /// What stands at the front of a text: a piece of this form, or white space or a comment, and its length in
 /// bytes. An opening parenthesis has 0 for its `close` until the groups are paired.
@@ -21,46 +14,51 @@ pub(crate) struct Front {
     pub(crate) len: usize,
 }
 
-/// The front of a text, given as its first byte and the rest. None where it has no end.
-pub(crate) fn front_of(first: u8, rest: &[u8]) -> Option<Front>
-    requires { length rest.now < 2 ^ 32 }
-    ensures value { option_map shown_front result ≡ front_of first rest.now }
+/// The front of a text. None where it has no end, or where nothing stands in the text.
+pub(crate) fn front_of(text: &[u8]) -> Option<Front>
+    ensures value { (b : ℕ) (rest : List ℕ) → text.now ≡ b ∷ rest → option_map shown_front result ≡ front_of b rest }
     ensures not_empty { IfSome result (λ front. 0 < front.len) }
-    ensures within { IfSome result (λ front. front.len ≤ length rest.now + 1) }
+    ensures within { IfSome result (λ front. front.len ≤ length text.now) }
 {
-    if is_white(first) {
-        return Some(gap(1));
+    match text {
+        [] => None,
+        [first, rest @ ..] => front_at(text, *first, rest),
     }
+}
+
+fn front_at(text: &[u8], first: u8, rest: &[u8]) -> Option<Front>
+    requires { text.now ≡ first ∷ rest.now }
+    ensures { option_map shown_front result ≡ front_of first rest.now }
+{
+    if is_blank(first) {
+        Some(gap(1))
+    } else if first == b'/' && stands_at(rest, 0, b'/') {
+        Some(gap(1 + line_len(rest)))
+    } else if first == b'/' && stands_at(rest, 0, b'*') {
+        Some(gap(comment_end(text)?))
+    } else {
+        piece_at(first, rest)
+    }
+}
+
+fn piece_at(first: u8, rest: &[u8]) -> Option<Front>
+    requires { is_blank first ≡ false }
+    ensures { option_map shown_front result
+        ≡ option_map (λ n. record { mark = Some (mark_of first); len = n }) (piece_length (mark_of first) (first ∷ rest.now)) }
+{
     match first {
         b'(' => Some(piece(Form::Open { close: 0 }, 1)),
         b')' => Some(piece(Form::Close, 1)),
         b':' => Some(piece(Form::Colon, 1)),
         b'"' => Some(piece(Form::Text, place_of(b'"', rest)? + 2)),
-        b'/' => after_slash(rest),
         _ => atom_after(first, rest),
-    }
-}
-
-fn after_slash(rest: &[u8]) -> Option<Front>
-    requires { length rest.now < 2 ^ 32 }
-    ensures value { option_map shown_front result ≡ front_of slash rest.now }
-    ensures not_empty { IfSome result (λ front. 0 < front.len) }
-    ensures within { IfSome result (λ front. front.len ≤ length rest.now + 1) }
-{
-    match rest {
-        [b'/', line @ ..] => Some(gap(line_rest(line) + 2)),
-        [b'*', block @ ..] => Some(gap(block_rest(block)? + 2)),
-        _ => atom_after(b'/', rest),
     }
 }
 
 #[tactic(auto, using(crate::proofs::Counting::atom_front))]
 fn atom_after(first: u8, rest: &[u8]) -> Option<Front>
-    requires within { length rest.now < 2 ^ 32 }
-    requires begins { ends_atom first ≡ false }
-    ensures value { option_map shown_front result ≡ option_map (λ n. record { mark = Some atom; len = n }) (atom_length (first ∷ rest.now)) }
-    ensures not_empty { IfSome result (λ front. 0 < front.len) }
-    ensures within { IfSome result (λ front. front.len ≤ length rest.now + 1) }
+    requires { ends_atom first ≡ false }
+    ensures { option_map shown_front result ≡ option_map (λ n. record { mark = Some atom; len = n }) (atom_length (first ∷ rest.now)) }
 {
     let len = atom_left(first == b'\\', rest)?;
     Some(piece(Form::Atom, len + 1))
@@ -81,16 +79,10 @@ fn piece(form: Form, len: usize) -> Front
     }
 }
 
-fn is_white(byte: u8) -> bool
-    ensures { result ≡ is_white byte }
-{
-    byte == b' ' || byte == b'\t' || byte == b'\n' || byte == b'\r' || byte == b'\x0c'
-}
-
 fn ends_atom(byte: u8) -> bool
     ensures { result ≡ ends_atom byte }
 {
-    is_white(byte) || byte == b'(' || byte == b')' || byte == b':' || byte == b'"'
+    is_blank(byte) || byte == b'(' || byte == b')' || byte == b':' || byte == b'"'
 }
 
 fn place_of(wanted: u8, bytes: &[u8]) -> Option<usize>
@@ -98,31 +90,6 @@ fn place_of(wanted: u8, bytes: &[u8]) -> Option<usize>
     ensures within { IfSome result (λ n. n < length bytes.now) }
 {
     bytes.iter().position(|byte| *byte == wanted)
-}
-
-fn line_rest(bytes: &[u8]) -> usize
-    ensures value { result ≡ line_rest bytes.now }
-    ensures within { result ≤ length bytes.now }
-{
-    match place_of(b'\n', bytes) {
-        Some(place) => place,
-        None => bytes.len(),
-    }
-}
-
-#[tactic(auto, using(crate::proofs::Counting::block_steps))]
-fn block_rest(bytes: &[u8]) -> Option<usize>
-    ensures value { result ≡ block_rest bytes.now }
-    ensures within { IfSome result (λ n. n ≤ length bytes.now) }
-{
-    let mut after_star = false;
-    for (place, byte) in bytes.iter().enumerate() {
-        if after_star && *byte == b'/' {
-            return Some(place + 1);
-        }
-        after_star = *byte == b'*';
-    }
-    None
 }
 
 #[tactic(auto, using(crate::proofs::Counting::atom_steps))]

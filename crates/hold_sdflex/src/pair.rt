@@ -14,7 +14,7 @@ ghost use Rattle.std.specs.Prelude.{
 };
 ghost use Rattle.hold_sdflex.specs.Front.{Mark};
 ghost use Rattle.hold_sdflex.specs.Nesting.{form_of, mark_in, paired};
-ghost use Rattle.hold_sdflex.specs.Waiting.{shown, AreWaiting};
+ghost use Rattle.hold_sdflex.specs.inner.Waiting.{shown, AreWaiting};
 
 use crate::piece::{Form, Piece};
 use hold_base::Memory;

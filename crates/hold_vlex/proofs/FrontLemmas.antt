@@ -1,43 +1,24 @@
 -- What the front of a text takes.
-use Rattle.std.proofs.Common.{◌≡◌, ℕ, zero, suc, ◌+◌, ◌<◌, ◌≤◌, Bool, true, false, cond, List, [], ◌∷◌, length, take, drop, Option, Some, None, refl, sym, ◌∙◌, ap, subst, arith}
+use Rattle.std.proofs.Common.{◌≡◌, ℕ, suc, ◌+◌, ◌<◌, ◌≤◌, Bool, true, false, cond, List, [], ◌∷◌, length, take, drop, Option, Some, None, ◌≢◌, refl, sym, ◌∙◌, ap, subst, arith}
 use Rattle.std.specs.Prelude.{IfSome, is_some, slice_get, ◌&&◌, ◌==◌}
 use Rattle.std.specs.List.{prefix_len, take_while, list_all, AllByRecursion}
-use Rattle.std.proofs.lemmas.Bool.{cond_both}
+use Rattle.std.proofs.lemmas.Bool.{cond_both, and_parts}
 use Rattle.std.proofs.lemmas.Bool.Decides.{Decides-eqb, nat_tests}
 use Rattle.std.proofs.lemmas.List.{length-drop}
+use Rattle.std.proofs.lemmas.Option.{slice_get_within}
 use Rattle.std.proofs.lemmas.List.Folds.{length-prefix_len}
 use Rattle.std.proofs.lemmas.List.Sums.{prefix_len-le-length}
 use Rattle.hold_vlex.specs.Lexed.{marks}
 use Rattle.std.specs.Char.{is_ascii_digit}
 use Rattle.hold_words.specs.Rows.{first_row}
-use Rattle.hold_vlex.specs.Bytes.{quote, apostrophe, left_parenthesis, right_parenthesis, star, slash, backslash, backquote, is_blank, is_printed, is_in_line, begins_word, is_in_directive, continues_word, begins_number, continues_number, is_base, heads, IsSpelled}
-use Rattle.hold_vlex.specs.Front.{Front, Nothing, Past, Read, Bad, NoEnd, NoName, comment_end, attribute_end, string_end, after_backslash, closed, line_directives, directive, escaped, number_sort, constant_sort, whole, front, IsWithin}
+use Rattle.hold_text.specs.Blanks.{quote, star, slash, backslash, is_blank, is_in_line, heads}
+use Rattle.hold_vlex.specs.Bytes.{apostrophe, left_parenthesis, right_parenthesis, backquote, begins_word, is_in_directive, continues_word, begins_number, continues_number, is_base}
+use Rattle.hold_base.specs.NameBytes.{is_printed, IsPrinted, IsName}
+use Rattle.hold_vlex.specs.Front.{Front, Nothing, Past, Read, Bad, NoEnd, NoName, attribute_end, string_end, after_backslash, closed, line_directives, directive, escaped, number_sort, constant_sort, whole, front}
+use Rattle.hold_text.proofs.Ends.{heads-length, EndsWithin, EndsWithin-later, comment_end-within}
+use Rattle.hold_vlex.specs.inner.Front.{IsWithin}
 use Rattle.hold_vlex.specs.declared.token.Sort.{Sort}
 use Rattle.hold_vlex.specs.declared.token.Sort.TheVariants.{Word, Escaped, Number, Constant, Directive, Other}
-
-heads-length : (b : ℕ) (bs : List ℕ) → heads b bs ≡ true → 0 < length bs
-heads-length b [] h = absurd cc
-heads-length b (c ∷ bs) h = omega arith
-
-both-right : (a b : Bool) → (a && b) ≡ true → b ≡ true
-both-right true b h = h
-both-right false b h = absurd cc
-
--- an end stands after its sign, within the text
-abbrev EndsWithin : ℕ → List ℕ → Option ℕ → Type 0
-EndsWithin n bs end = IfSome end (λ e. (n < e) × (e ≤ n + length bs))
-
-EndsWithin-later : (n b : ℕ) (bs : List ℕ) (o : Option ℕ) → EndsWithin (n + 1) bs o → EndsWithin n (b ∷ bs) o
-EndsWithin-later n b bs None h = tt
-EndsWithin-later n b bs (Some e) h = (omega arith, omega arith)
-
-pub comment_end-within : (n : ℕ) (bs : List ℕ) → EndsWithin n bs (comment_end n bs)
-comment_end-within n [] = tt
-comment_end-within n (b ∷ bs) =
-    let rest = comment_end-within (n + 1) bs in
-    cond_both (b == star && heads slash bs) _ _ (EndsWithin n (b ∷ bs))
-    (λ h. let more : 0 < length bs = heads-length slash bs (both-right (b == star) (heads slash bs) h) in (omega arith, omega arith))
-    (λ _. EndsWithin-later n b bs _ rest)
 
 mutual
   pub attribute_end-within : (n : ℕ) (bs : List ℕ) → EndsWithin n bs (attribute_end n bs)
@@ -46,7 +27,7 @@ mutual
       let string = string_end-within (n + 1) bs in
       let rest = attribute_end-within (n + 1) bs in
       cond_both (b == star && heads right_parenthesis bs) _ _ (EndsWithin n (b ∷ bs))
-      (λ h. let more : 0 < length bs = heads-length right_parenthesis bs (both-right (b == star) (heads right_parenthesis bs) h) in (omega arith, omega arith))
+      (λ h. let more : 0 < length bs = heads-length right_parenthesis bs (and_parts (b == star) (heads right_parenthesis bs) h).1 in (omega arith, omega arith))
       (λ _. cond_both (b == quote) _ _ (EndsWithin n (b ∷ bs)) (λ _. EndsWithin-later n b bs _ string) (λ _. EndsWithin-later n b bs _ rest))
 
   string_end-within : (n : ℕ) (bs : List ℕ) → EndsWithin n bs (string_end n bs)
@@ -68,7 +49,7 @@ abbrev pub Fits : List ℕ → Front → Type 0
 Fits text Nothing = Unit {0}
 Fits text (Past n) = (0 < n) × (n ≤ length text)
 Fits text (Read sort t n) =
-    (0 < n) × (n ≤ length text) × (t ≡ take (length t) (drop (marks sort) text)) × (marks sort + length t ≤ n) × IsSpelled t
+    (0 < n) × (n ≤ length text) × (t ≡ take (length t) (drop (marks sort) text)) × (marks sort + length t ≤ n) × IsName t
 Fits text (Bad n) = n < length text
 Fits text NoEnd = Unit {0}
 Fits text NoName = Unit {0}
@@ -77,9 +58,6 @@ Fits-closed : (o : Option ℕ) (bs : List ℕ) (b : ℕ) → 0 < length bs → I
 Fits-closed None bs b more h = tt
 Fits-closed (Some e) [] b more h = absurd (omega arith)
 Fits-closed (Some e) (c ∷ bs) b more h = (omega arith, omega arith)
-
-abbrev IsPrinted : ℕ → Type 0
-IsPrinted b = (33 ≤ b) × (b ≤ 126)
 
 is_printed-is : (b : ℕ) → is_printed b ≡ true → IsPrinted b
 is_printed-is b h = (grind (arith, nat_tests), grind (arith, nat_tests))
@@ -121,7 +99,7 @@ Fits-run sort p b bs e printed first =
       omega arith,
       run-is-front p b bs ∙ ap (λ m. take (length (b ∷ take_while p bs)) (drop m (b ∷ bs))) (sym e),
       omega arith,
-      (omega arith, (first, take_while-printed p bs printed)),
+      record { some = λ e. cc; bytes = (first, take_while-printed p bs printed) },
     )
 
 marks-constant_sort : (run : List ℕ) → marks (constant_sort run) ≡ 0
@@ -155,20 +133,15 @@ Fits-directive bs =
       omega arith,
       run-is-front is_in_directive backquote bs,
       omega arith,
-      (omega arith, ((omega arith, omega arith), take_while-printed is_in_directive bs is_in_directive-is)),
+      record { some = λ e. cc; bytes = ((omega arith, omega arith), take_while-printed is_in_directive bs is_in_directive-is) },
     ))
 
-slice_get-Some : (xs : List ℕ) (k x : ℕ) → slice_get xs k ≡ Some x → k < length xs
-slice_get-Some [] k x h = absurd cc
-slice_get-Some (y ∷ ys) zero x h = omega arith
-slice_get-Some (y ∷ ys) (suc k) x h = let rest = slice_get-Some ys k x h in omega arith
-
-is-some-length : (name : List ℕ) → (length name == 0) ≡ false → 0 < length name
-is-some-length [] h = absurd cc
-is-some-length (b ∷ bs) h = omega arith
+some-from_length : (name : List ℕ) → (length name == 0) ≡ false → name ≢ []
+some-from_length [] h = absurd cc
+some-from_length (b ∷ bs) h = λ e. cc
 
 Fits-escaped : (b : ℕ) (bs : List ℕ) → Fits (b ∷ bs) (escaped (take_while is_printed bs) (slice_get bs (prefix_len is_printed bs)))
-Fits-escaped b bs = by_next (slice_get bs (prefix_len is_printed bs)) (slice_get-Some bs (prefix_len is_printed bs))
+Fits-escaped b bs = by_next (slice_get bs (prefix_len is_printed bs)) (slice_get_within bs (prefix_len is_printed bs))
   where
     by_next : (o : Option ℕ) → ((x : ℕ) → o ≡ Some x → prefix_len is_printed bs < length bs) → Fits (b ∷ bs) (escaped (take_while is_printed bs) o)
     by_next None past = tt
@@ -178,7 +151,7 @@ Fits-escaped b bs = by_next (slice_get bs (prefix_len is_printed bs)) (slice_get
         let l : length name ≡ prefix_len is_printed bs = length-prefix_len is_printed bs in
         cond_both (is_blank c) (cond (length name == 0) NoName (Read Escaped name (1 + length name))) (Bad (1 + length name)) (Fits (b ∷ bs))
         (λ _. cond_both (length name == 0) NoName (Read Escaped name (1 + length name)) (Fits (b ∷ bs)) (λ _. tt)
-        (λ e. (omega arith, omega arith, sym (ap (λ m. take m bs) l), omega arith, (is-some-length name e, take_while-printed is_printed bs is_printed-is))))
+        (λ e. (omega arith, omega arith, sym (ap (λ m. take m bs) l), omega arith, record { some = some-from_length name e; bytes = take_while-printed is_printed bs is_printed-is })))
         (λ _. omega arith)
 
 pub front-Fits : (text : List ℕ) → Fits text (front text)
@@ -190,16 +163,16 @@ front-Fits (b ∷ bs) =
     cond_both (is_blank b) _ _ P (λ _. (omega arith, omega arith))
     (λ _. cond_both (b == slash && heads slash bs) _ _ P (λ _. (omega arith, omega arith))
     (λ _. cond_both (b == slash && heads star bs) _ _ P
-    (λ h. Fits-closed _ bs b (heads-length star bs (both-right (b == slash) (heads star bs) h)) (comment_end-within 2 (drop 1 bs)))
+    (λ h. Fits-closed _ bs b (heads-length star bs (and_parts (b == slash) (heads star bs) h).1) (comment_end-within 2 (drop 1 bs)))
     (λ _. cond_both (b == left_parenthesis && heads star bs) _ _ P
-    (λ h. Fits-closed _ bs b (heads-length star bs (both-right (b == left_parenthesis) (heads star bs) h)) (attribute_end-within 2 (drop 1 bs)))
+    (λ h. Fits-closed _ bs b (heads-length star bs (and_parts (b == left_parenthesis) (heads star bs) h).1) (attribute_end-within 2 (drop 1 bs)))
     (λ _. cond_both (b == backquote) _ _ P
     (λ h. let e : backquote ≡ b = sym ((Decides-eqb b backquote).0 h) in subst (λ c. Fits (c ∷ bs) (directive (take_while is_in_directive bs) bs)) e (Fits-directive bs))
     (λ _. cond_both (b == backslash) _ _ P (λ _. Fits-escaped b bs)
     (λ _. cond_both (begins_word b) _ _ P (λ h. Fits-run Word continues_word b bs refl continues_word-is (begins_word-is b h))
     (λ _. cond_both (begins_number b) _ _ P
     (λ h. Fits-run (number_sort (b ∷ take_while continues_number bs)) continues_number b bs (marks-number_sort (b ∷ take_while continues_number bs)) continues_number-is (begins_number-is b h))
-    (λ _. cond_both (is_printed b) _ _ P (λ h. (omega arith, omega arith, refl, omega arith, (omega arith, (is_printed-is b h, tt)))) (λ _. omega arith)))))))))
+    (λ _. cond_both (is_printed b) _ _ P (λ h. (omega arith, omega arith, refl, omega arith, record { some = λ e. cc; bytes = (is_printed-is b h, tt) })) (λ _. omega arith)))))))))
 
 pub IsWithin-from_Fits : (text : List ℕ) (f : Front) → Fits text f → IsWithin (length text) f
 IsWithin-from_Fits text Nothing h = tt

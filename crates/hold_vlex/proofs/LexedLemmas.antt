@@ -1,15 +1,14 @@
 -- What is read from a text goes by what stands at its front.
 use Rattle.std.proofs.Common.{◌≡◌, ℕ, zero, suc, ◌+◌, ◌-◌, ◌<◌, List, [], ◌∷◌, length, drop, Some, None, Ok, Err, refl, sym, ◌∙◌, ap, subst, arith}
 use Rattle.std.proofs.lemmas.List.{drop-drop}
-use Rattle.hold_vlex.specs.Front.{Front, Nothing, Past, Read, Bad, NoEnd, NoName, front, IsWithin}
-use Rattle.hold_vlex.specs.Lexed.{Lexed, ended, with_token, lexed_by, lexed_from, lexed_at, lexeme, IsNext}
+use Rattle.std.proofs.Math.Seq.{drop-nil}
+use Rattle.hold_vlex.specs.Front.{Front, Nothing, Past, Read, Bad, NoEnd, NoName, front}
+use Rattle.hold_vlex.specs.inner.Front.{IsWithin}
+use Rattle.hold_vlex.specs.Lexed.{Lexed, ended, with_token, lexed_by, lexed_from, lexeme}
+use Rattle.hold_vlex.specs.inner.Lexed.{lexed_at, IsNext}
 use Rattle.hold_vlex.specs.declared.token.Token.{Token}
 use Rattle.hold_vlex.specs.declared.fault.LexFault.{LexFault}
 use Rattle.hold_vlex.proofs.FrontLemmas.{front_within}
-
-drop-nil : (n : ℕ) → drop {A = ℕ} n [] ≡ []
-drop-nil zero = refl
-drop-nil (suc n) = refl
 
 -- bytes that belong to what was read before are passed
 lexed_from-skip : (n at : ℕ) (text : List ℕ) → lexed_from n at text ≡ lexed_from 0 (at + n) (drop n text)

@@ -1,9 +1,10 @@
 -- Where an attribute ends, by where its next byte stands.
 use Rattle.std.proofs.Common.{◌≡◌, ℕ, ◌+◌, List, ◌∷◌, Option, Some, refl, arith}
 use Rattle.std.specs.Prelude.{◌&&◌, ◌==◌, if◌then◌else◌}
-use Rattle.hold_vlex.specs.Bytes.{right_parenthesis, star, heads}
+use Rattle.hold_vlex.specs.Bytes.{right_parenthesis}
+use Rattle.hold_text.specs.Blanks.{star, heads}
 use Rattle.hold_vlex.specs.Front.{attribute_end, string_end, after_backslash}
-use Rattle.hold_vlex.specs.Past.{within_after, is_plain}
+use Rattle.hold_vlex.specs.inner.Past.{within_after, is_plain}
 use Rattle.hold_vlex.specs.declared.past.Within.{Within}
 use Rattle.hold_vlex.specs.declared.past.Within.TheVariants.{Plain, Quoted, Slashed}
 

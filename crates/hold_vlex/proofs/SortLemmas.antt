@@ -5,8 +5,11 @@ use Rattle.std.specs.List.{prefix_len, take_while, list_all}
 use Rattle.std.specs.Char.{is_ascii_digit}
 use Rattle.std.proofs.lemmas.Bool.{cond_both}
 use Rattle.hold_words.specs.Rows.{first_row}
-use Rattle.hold_vlex.specs.Bytes.{apostrophe, left_parenthesis, star, slash, backslash, backquote, heads, begins_word, begins_number, is_blank, is_printed, is_in_directive, is_in_line, is_base, continues_number}
-use Rattle.hold_vlex.specs.Front.{Front, Nothing, Past, Read, Bad, NoEnd, NoName, comment_end, attribute_end, closed, line_directives, directive, escaped, number_sort, constant_sort, front, fits_sort}
+use Rattle.hold_vlex.specs.Bytes.{apostrophe, left_parenthesis, backquote, begins_word, begins_number, is_in_directive, is_base, continues_number}
+use Rattle.hold_text.specs.Blanks.{star, slash, backslash, heads, is_blank, is_in_line, comment_end}
+use Rattle.hold_base.specs.NameBytes.{is_printed}
+use Rattle.hold_vlex.specs.Front.{Front, Nothing, Past, Read, Bad, NoEnd, NoName, attribute_end, closed, line_directives, directive, escaped, number_sort, constant_sort, front}
+use Rattle.hold_vlex.specs.Front.{fits_sort}
 use Rattle.hold_vlex.specs.declared.token.Sort.{Sort}
 use Rattle.hold_vlex.specs.declared.token.Sort.TheVariants.{Escaped, Number, Constant, Directive, Other}
 

@@ -3,9 +3,6 @@
 --   Read sort text n: a token of that sort and text, which takes n bytes.
 --   Bad n: n bytes on stands a byte that fits no rule. NoEnd: a comment or an attribute that has no end.
 --   NoName: an escaped name that is empty or reaches the end of the text.
--- IsWithin len f: what f takes is at least one byte and at most len, and a bad byte stands before len.
--- comment_end n text: the place after the first `*/`, where the text's first byte has the place n; None where
---   there is no such sign.
 -- attribute_end n text: the place after the first `*)` that is in no string, where the text's first byte has the
 --   place n and is in no string itself; None where there is no such sign, as where a string never ends.
 -- string_end n text: the same where the text's first byte is in a string, which ends at its next quote.
@@ -23,11 +20,13 @@
 -- fits_sort sort text: whether a number's text is digits alone. Of any other sort nothing is asked.
 -- whole sort text: a token whose text is all that it takes.
 -- front text: what stands at the front of the text.
-use Rattle.std.specs.Prelude.{ℕ, ◌+◌, ◌<◌, ◌≤◌, Bool, true, false, ◌&&◌, ◌==◌, if◌then◌else◌, List, [], ◌∷◌, length, drop, slice_get, Option, Some, None, is_some, codes}
+use Rattle.std.specs.Prelude.{ℕ, ◌+◌, Bool, true, false, ◌&&◌, ◌==◌, if◌then◌else◌, List, [], ◌∷◌, length, drop, slice_get, Option, Some, None, is_some, codes}
 use Rattle.std.specs.List.{prefix_len, take_while, list_all}
 use Rattle.std.specs.Char.{is_ascii_digit}
 use Rattle.hold_words.specs.Rows.{first_row}
-use Rattle.hold_vlex.specs.Bytes.{quote, apostrophe, left_parenthesis, right_parenthesis, star, slash, backslash, backquote, is_blank, is_printed, is_in_line, begins_word, is_in_directive, continues_word, begins_number, continues_number, is_base, heads}
+use Rattle.hold_text.specs.Blanks.{quote, star, slash, backslash, is_blank, line_len, heads, comment_end}
+use Rattle.hold_vlex.specs.Bytes.{apostrophe, left_parenthesis, right_parenthesis, backquote, begins_word, is_in_directive, continues_word, begins_number, continues_number, is_base}
+use Rattle.hold_base.specs.NameBytes.{is_printed}
 use Rattle.hold_vlex.specs.declared.token.Sort.{Sort}
 use Rattle.hold_vlex.specs.declared.token.Sort.TheVariants.{Word, Escaped, Number, Constant, Directive, Sign, Other}
 
@@ -38,10 +37,6 @@ pub data Front : Type 0 where
   Bad : ℕ → Front
   NoEnd : Front
   NoName : Front
-
-abbrev pub comment_end : ℕ → List ℕ → Option ℕ
-comment_end n [] = None
-comment_end n (b ∷ bs) = if b == star && heads slash bs then Some (n + 2) else comment_end (n + 1) bs
 
 abbrev mutual
   pub attribute_end : ℕ → List ℕ → Option ℕ
@@ -72,7 +67,7 @@ line_directives =
 
 abbrev pub directive : List ℕ → List ℕ → Front
 directive run bs =
-    if is_some (first_row run line_directives) then Past (1 + length run + prefix_len is_in_line (drop (length run) bs))
+    if is_some (first_row run line_directives) then Past (1 + length run + line_len (drop (length run) bs))
     else Read Directive (backquote ∷ run) (1 + length run)
 
 abbrev pub escaped : List ℕ → Option ℕ → Front
@@ -107,7 +102,7 @@ unfoldable pub front : List ℕ → Front
 front [] = Nothing
 front (b ∷ bs) =
     if is_blank b then Past 1
-    else (if b == slash && heads slash bs then Past (1 + prefix_len is_in_line bs)
+    else (if b == slash && heads slash bs then Past (1 + line_len bs)
     else (if b == slash && heads star bs then closed (comment_end 2 (drop 1 bs))
     else (if b == left_parenthesis && heads star bs then closed (attribute_end 2 (drop 1 bs))
     else (if b == backquote then directive (take_while is_in_directive bs) bs
@@ -116,11 +111,3 @@ front (b ∷ bs) =
     else (if begins_number b then whole (number_sort (b ∷ take_while continues_number bs)) (b ∷ take_while continues_number bs)
     else (if is_printed b then whole Sign (b ∷ [])
     else Bad 0))))))))
-
-abbrev pub IsWithin : ℕ → Front → Type 0
-IsWithin len Nothing = Unit {0}
-IsWithin len (Past n) = (0 < n) × (n ≤ len)
-IsWithin len (Read sort text n) = (0 < n) × (n ≤ len)
-IsWithin len (Bad n) = n < len
-IsWithin len NoEnd = Unit {0}
-IsWithin len NoName = Unit {0}

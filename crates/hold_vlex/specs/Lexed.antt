@@ -10,14 +10,11 @@
 -- lexed text: what is read from the text.
 -- lexed_from n at text: what is read from a text whose first byte has the place at, and whose first n bytes
 --   belong to what was read before it.
--- lexed_at place text: what is read from the text from that place on.
--- IsNext old result new: where old is to be read, a call gives its first token, its end or its fault, and new is
---   to be read after it. At the end and at a fault, new is old, so that later calls answer the same.
 -- marks sort: how many bytes stand before the text of a token of that sort: the backslash of an escaped name.
 -- AreSlices text from ts: the tokens ts stand in the text at rising places from the place from on, none within
 --   another or past the text's end, and each has the bytes of the text at its place (an escaped name those after
 --   its backslash).
-use Rattle.std.specs.Prelude.{◌≡◌, ℕ, zero, suc, ◌+◌, ◌-◌, ◌≤◌, List, [], ◌∷◌, length, take, drop, Option, Some, None, Result, Ok, ◌↔◌, IfOk, IfErr, IfSome}
+use Rattle.std.specs.Prelude.{◌≡◌, ℕ, zero, suc, ◌+◌, ◌-◌, ◌≤◌, List, [], ◌∷◌, length, take, drop, Option, Some, None}
 use Rattle.hold_vlex.specs.Front.{Front, front, Nothing, Past, Read, Bad, NoEnd, NoName}
 use Rattle.hold_vlex.specs.declared.token.Sort.{Sort}
 use Rattle.hold_vlex.specs.declared.token.Sort.TheVariants.{Word, Escaped, Number, Constant, Directive, Sign, Other}
@@ -58,15 +55,6 @@ lexed_from (suc n) at (b ∷ bs) = lexed_from n (at + 1) bs
 
 abbrev pub lexed : List ℕ → Lexed
 lexed text = lexed_from 0 0 text
-
-abbrev pub lexed_at : ℕ → List ℕ → Lexed
-lexed_at place text = lexed_from 0 place (drop place text)
-
-pub record IsNext (old : Lexed) (result : Result (Option Token) LexFault) (new : Lexed) : Type 0 where
-  pub end : (result ≡ Ok None) ↔ (old ≡ ended None)
-  pub token : IfOk result (λ o. IfSome o (λ t. old ≡ with_token (lexeme t) new))
-  pub fault : IfErr result (λ f. old ≡ ended (Some f))
-  pub stays : old.tokens ≡ [] → new ≡ old
 
 abbrev pub marks : Sort → ℕ
 marks Word = 0

@@ -1,5 +1,4 @@
 pub mod Bytes
 pub mod Front
 pub mod Lexed
-pub mod Found
-pub mod Past
+pub mod inner

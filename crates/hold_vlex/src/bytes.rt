@@ -1,20 +1,9 @@
-ghost use Rattle.std.specs.Prelude.{◌≡◌, ◌≤◌, length, drop};
+ghost use Rattle.std.specs.Prelude.{◌≡◌, ◌≤◌, length};
 ghost use Rattle.std.specs.List.{prefix_len};
-ghost use Rattle.hold_vlex.specs.Bytes.{is_blank, is_printed, is_in_line, begins_word, is_in_directive, continues_word, begins_number, continues_number, is_base, heads};
+ghost use Rattle.hold_base.specs.NameBytes.{is_printed};
+ghost use Rattle.hold_vlex.specs.Bytes.{begins_word, is_in_directive, continues_word, begins_number, continues_number, is_base};
 
-/// White space: space, tab, newline, carriage return or form feed.
-pub fn is_blank(b: u8) -> bool
-    ensures { result ≡ is_blank b }
-{
-    matches!(b, b' ' | b'\t' | b'\n' | b'\r' | 0x0c)
-}
-
-/// A byte from 33 to 126, which is no blank.
-pub fn is_printed(b: u8) -> bool
-    ensures { result ≡ is_printed b }
-{
-    33 <= b && b <= 126
-}
+use hold_base::is_printed;
 
 /// What a simple identifier or a keyword begins with: a letter or `_`.
 pub fn begins_word(b: u8) -> bool
@@ -55,14 +44,6 @@ fn continues_number(b: u8) -> bool
     continues_word(b) || b == b'\''
 }
 
-/// How many bytes stand before the end of the line.
-pub fn line_len(text: &[u8]) -> usize
-    ensures value { result ≡ prefix_len is_in_line text.now }
-    ensures within { result ≤ length text.now }
-{
-    text.iter().take_while(|b| **b != b'\n').count()
-}
-
 /// How many printed bytes stand at the front.
 pub fn printed_len(text: &[u8]) -> usize
     ensures value { result ≡ prefix_len is_printed text.now }
@@ -93,11 +74,4 @@ pub fn number_len(text: &[u8]) -> usize
     ensures within { result ≤ length text.now }
 {
     text.iter().take_while(|b| continues_number(**b)).count()
-}
-
-/// Whether the text has the byte b at that place.
-pub fn stands_at(text: &[u8], at: usize, b: u8) -> bool
-    ensures { result ≡ heads b (drop at text.now) }
-{
-    at < text.len() && text[at] == b
 }

@@ -1,17 +1,18 @@
 ghost use Rattle.std.specs.Prelude.{◌≡◌, ◌≤◌, ◌∷◌, length, take, slice_get};
 ghost use Rattle.std.specs.List.{prefix_len, take_while};
-ghost use Rattle.hold_vlex.specs.Bytes.{backquote, is_printed, is_in_directive};
-ghost use Rattle.hold_vlex.specs.Front.{front, closed, whole, number_sort, directive, escaped, IsWithin};
-ghost use Rattle.hold_vlex.specs.Found.{shown};
+ghost use Rattle.hold_vlex.specs.Bytes.{backquote, is_in_directive};
+ghost use Rattle.hold_base.specs.NameBytes.{is_printed};
+ghost use Rattle.hold_vlex.specs.Front.{front, closed, whole, number_sort, directive, escaped};
+ghost use Rattle.hold_vlex.specs.inner.Front.{IsWithin};
+ghost use Rattle.hold_vlex.specs.inner.Found.{shown};
 
-use crate::bytes::{
-    begins_number, begins_word, directive_len, is_blank, is_printed, line_len, number_len,
-    printed_len, stands_at, word_len,
-};
+use crate::bytes::{begins_number, begins_word, directive_len, number_len, printed_len, word_len};
 use crate::number::number_sort;
-use crate::past::{attribute_end, comment_end};
+use crate::past::attribute_end;
 use crate::table::is_line_directive;
 use crate::token::Sort;
+use hold_base::is_printed;
+use hold_text::{comment_end, is_blank, line_len, stands_at};
 
 /// What stands at the front of a text.
 #[derive(Clone, Copy, Debug)]

@@ -1,7 +1,8 @@
 ghost use Rattle.std.specs.Prelude.{◌≡◌, ◌≤◌, ◌↔◌, None, Ok, Some, length, IfOk, IfErr, IfSome, []};
 ghost use Rattle.std.specs.List.{AllByRecursion};
-ghost use Rattle.hold_vlex.specs.Bytes.{IsSpelled};
-ghost use Rattle.hold_vlex.specs.Lexed.{lexed, lexed_at, ended, with_token, lexeme, IsNext, AreSlices};
+ghost use Rattle.hold_base.specs.NameBytes.{IsName};
+ghost use Rattle.hold_vlex.specs.Lexed.{lexed, ended, with_token, lexeme, AreSlices};
+ghost use Rattle.hold_vlex.specs.inner.Lexed.{lexed_at, IsNext};
 
 use crate::fault::LexFault;
 use crate::found::{Found, find_front};
@@ -18,7 +19,8 @@ pub struct Lexer<'a> {
 
 impl<'a> Model for Lexer<'a> {
     ghost use Rattle.std.specs.Prelude.{◌≤◌, length};
-    ghost use Rattle.hold_vlex.specs.Lexed.{Lexed, lexed_at};
+    ghost use Rattle.hold_vlex.specs.Lexed.{Lexed};
+    ghost use Rattle.hold_vlex.specs.inner.Lexed.{lexed_at};
 
     ghost Value = { Lexed };
 
@@ -32,7 +34,7 @@ impl<'a> Lexer<'a> {
     pub fn new(text: &'a [u8]) -> Lexer<'a>
         ensures all { result ≡ lexed text.now }
         ensures slices { AreSlices text.now 0 result.tokens }
-        ensures spelled { AllByRecursion (λ t. IsSpelled t.text) result.tokens }
+        ensures spelled { AllByRecursion (λ t. IsName t.text) result.tokens }
     {
         Lexer { text, place: 0 }
     }

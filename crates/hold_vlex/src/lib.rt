@@ -8,8 +8,6 @@ mod lexer;
 mod number;
 mod past;
 mod table;
-#[cfg(test)]
-mod tests;
 mod token;
 
 pub use fault::LexFault;

@@ -1,8 +1,8 @@
 ghost use Rattle.std.specs.Prelude.{◌≡◌, ◌≤◌, length, drop};
-ghost use Rattle.hold_vlex.specs.Front.{comment_end, attribute_end};
-ghost use Rattle.hold_vlex.specs.Past.{within_after, is_plain};
+ghost use Rattle.hold_vlex.specs.Front.{attribute_end};
+ghost use Rattle.hold_vlex.specs.inner.Past.{within_after, is_plain};
 
-use crate::bytes::stands_at;
+use hold_text::stands_at;
 
 /// Where a byte of an attribute stands.
 #[derive(Clone, Copy, Debug)]
@@ -34,19 +34,6 @@ impl Within {
             Within::Quoted | Within::Slashed => Within::Quoted,
         }
     }
-}
-
-/// The place after the end of the comment, in a text that begins with the comment's opening sign.
-pub fn comment_end(text: &[u8]) -> Option<usize>
-    requires { 2 ≤ length text.now }
-    ensures { result ≡ comment_end 2 (drop 2 text.now) }
-{
-    for i in 2..text.len() {
-        if text[i] == b'*' && stands_at(text, i + 1, b'/') {
-            return Some(i + 2);
-        }
-    }
-    None
 }
 
 /// The place after the end of the attribute, in a text that begins with the attribute's opening sign.

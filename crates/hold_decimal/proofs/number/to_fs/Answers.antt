@@ -1,6 +1,7 @@
 use Rattle.std.proofs.Common.{◌+◌, ◌*◌, ◌^◌, ◌++◌, length, refl, ap, subst, arith, Ok}
-use Rattle.hold_decimal.specs.Numeral.{Numeral, Spells, number_of}
-use Rattle.hold_decimal.specs.Reading.{IsOutward}
+use Rattle.hold_decimal.specs.Numeral.{Numeral, Spells}
+use Rattle.hold_base.specs.Digits.{number_of}
+use Rattle.hold_decimal.specs.inner.Reading.{IsOutward}
 use Rattle.hold_decimal.specs.Rounding.{fraction_of, PassesLimit, IsTime}
 use Rattle.hold_decimal.proofs.Times.{time_of, passes, time-floor, time-ceiling, time-one, time-within}
 use Rattle.hold_decimal.proofs.number.to_fs.Goals as goal

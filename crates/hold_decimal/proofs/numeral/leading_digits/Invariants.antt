@@ -1,5 +1,5 @@
 use Rattle.std.proofs.Common.{◌≡◌, ◌+◌, drop}
-use Rattle.hold_decimal.specs.Reading.{leading}
+use Rattle.hold_decimal.specs.inner.Reading.{leading}
 use Rattle.hold_decimal.proofs.numeral.leading_digits.Given as goal
 
 abbrev pub invariant-loop-i : goal.invariant-loop-i

@@ -2,7 +2,7 @@ use Rattle.std.proofs.Common.{◌+◌, ◌≤◌, length, ap, ◌∙◌, sym, su
 use Rattle.std.proofs.lemmas.Bool.{eqb-true, eqb-false}
 use Rattle.std.proofs.lemmas.List.{nil_from_length}
 use Rattle.hold_decimal.specs.Numeral.{IsExponent}
-use Rattle.hold_decimal.specs.Reading.{front_digits, after_digits, part_of, after_part}
+use Rattle.hold_decimal.specs.inner.Reading.{front_digits, after_digits, part_of, after_part}
 use Rattle.hold_decimal.proofs.Cuts.{no_digits, no_exponent, spelled-reading}
 use Rattle.hold_decimal.proofs.numeral.read_parts.Goals as goal
 use Rattle.hold_decimal.proofs.numeral.read_parts.Goals.{else-is_empty-via-then-is_empty+else-is_empty-2, else-is_empty-via-else-is_empty}

@@ -1,6 +1,7 @@
 use Rattle.std.proofs.Common.{sym, subst, ap, ◌∙◌}
 use Rattle.std.proofs.lemmas.List.{drop_more}
-use Rattle.hold_decimal.specs.Numeral.{AllDigits, number_of}
+use Rattle.hold_decimal.specs.Numeral.{AllDigits}
+use Rattle.hold_base.specs.Digits.{number_of}
 use Rattle.hold_decimal.proofs.Digits.{not_zero}
 use Rattle.hold_decimal.proofs.rounding.are_zeros.Goals as goal
 

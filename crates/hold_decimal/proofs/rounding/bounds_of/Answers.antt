@@ -1,6 +1,7 @@
-use Rattle.std.proofs.Common.{◌*◌, ◌^◌, ◌++◌, min, ap, subst, ◌∙◌, arith}
-use Rattle.hold_decimal.specs.Numeral.{number_of}
-use Rattle.hold_decimal.specs.Reading.{IsCutOff}
+use Rattle.std.proofs.Common.{◌+◌, ◌*◌, ◌^◌, ◌++◌, min, ap, subst, ◌∙◌, arith}
+use Rattle.hold_base.specs.Limits.{time_limit}
+use Rattle.hold_base.specs.Digits.{number_of}
+use Rattle.hold_decimal.specs.inner.Reading.{IsCutOff}
 use Rattle.hold_decimal.proofs.Digits.{AllDigits-append}
 use Rattle.hold_decimal.proofs.Bounds.{parted_off, lost-zero, bounds_beside, bounds_none}
 use Rattle.hold_decimal.proofs.rounding.bounds_of.Goals as goal
@@ -16,7 +17,7 @@ returns-clause-beside c =
     let zeros = c.loses_zeros.ensures in
     bounds_beside _ _ _ _ c.floor_of-floor.result c.loses_zeros.result c.within_limit.result
     (parted_off all front back c.args.up c.args.down digits cut)
-    (c.floor_of-floor.ensures ∙ ap (λ n. min (number_of front * 10 ^ n) 10000000001) c.saturating_sub-2.ensures)
+    (c.floor_of-floor.ensures ∙ ap (λ n. min (number_of front * 10 ^ n) (time_limit + 1)) c.saturating_sub-2.ensures)
     ((λ t. ap (λ n. n * 10 ^ c.args.up) (zeros.0 t) ∙ omega arith), (λ e. zeros.1 (lost-zero (number_of back) c.args.up e)))
     c.within_limit.ensures.floor c.within_limit.ensures.ceiling c.within_limit.ensures.within
 
@@ -30,6 +31,6 @@ returns-clause-none c =
     let zeros = c.loses_zeros.ensures in
     bounds_none _ _ _ _ c.floor_of-floor.result c.loses_zeros.result c.within_limit.result
     (parted_off all front back c.args.up c.args.down digits cut)
-    (c.floor_of-floor.ensures ∙ ap (λ n. min (number_of front * 10 ^ n) 10000000001) c.saturating_sub-2.ensures)
+    (c.floor_of-floor.ensures ∙ ap (λ n. min (number_of front * 10 ^ n) (time_limit + 1)) c.saturating_sub-2.ensures)
     ((λ t. ap (λ n. n * 10 ^ c.args.up) (zeros.0 t) ∙ omega arith), (λ e. zeros.1 (lost-zero (number_of back) c.args.up e)))
     c.within_limit.ensures.none

@@ -1,5 +1,6 @@
-use Rattle.std.proofs.Common.{◌≡◌, ◌*◌, ◌^◌, ◌≤◌, min}
+use Rattle.std.proofs.Common.{◌+◌, ◌≡◌, ◌*◌, ◌^◌, ◌≤◌, min}
+use Rattle.hold_base.specs.Limits.{time_limit}
 use Rattle.hold_decimal.proofs.rounding.with_zeros.Given as goal
 
 abbrev pub invariant-loop-zero : goal.invariant-loop-zero
-invariant-loop-zero l = (l.count ≤ 10000000001) × (l.count ≡ min (l.initial.count * 10 ^ l._zero) 10000000001)
+invariant-loop-zero l = (l.count ≤ time_limit + 1) × (l.count ≡ min (l.initial.count * 10 ^ l._zero) (time_limit + 1))

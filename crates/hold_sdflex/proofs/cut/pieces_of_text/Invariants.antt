@@ -1,6 +1,6 @@
 use Rattle.std.proofs.Common.{◌≡◌, ◌≤◌, ◌-◌, length, drop}
 use Rattle.hold_sdflex.specs.Pieces.{pieces_from, pieces_of_text}
-use Rattle.hold_sdflex.specs.Waiting.{shown}
+use Rattle.hold_sdflex.specs.inner.Waiting.{shown}
 use Rattle.hold_sdflex.proofs.Cutting.{before}
 use Rattle.hold_sdflex.proofs.cut.pieces_of_text.Given as goal
 

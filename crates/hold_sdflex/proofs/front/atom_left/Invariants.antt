@@ -1,5 +1,5 @@
 use Rattle.std.proofs.Common.{◌≡◌, drop}
-use Rattle.hold_sdflex.specs.Waiting.{atom_left}
+use Rattle.hold_sdflex.specs.inner.Waiting.{atom_left}
 use Rattle.hold_sdflex.proofs.Counting.{shift}
 use Rattle.hold_sdflex.proofs.front.atom_left.Given as goal
 

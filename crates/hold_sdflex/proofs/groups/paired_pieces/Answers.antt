@@ -1,7 +1,7 @@
 use Rattle.std.proofs.Common.{◌≡◌, ap, length, Some, arith}
 use Rattle.std.proofs.lemmas.List.{length-map}
 use Rattle.hold_sdflex.specs.Pieces.{pieces_of_text}
-use Rattle.hold_sdflex.specs.Waiting.{shown_piece, shown}
+use Rattle.hold_sdflex.specs.inner.Waiting.{shown_piece, shown}
 use Rattle.hold_sdflex.proofs.OneGroup.{pieces_fit}
 use Rattle.hold_sdflex.proofs.groups.paired_pieces.Goals as goal
 

@@ -1,6 +1,6 @@
 use Rattle.std.proofs.Common.{◌≡◌, ◌+◌, ◌-◌, ◌∷◌, subst, sym, ◌∙◌, arith, drop, get_or}
 use Rattle.hold_sdflex.specs.Nesting.{form_of, mark_in}
-use Rattle.hold_sdflex.specs.Waiting.{AreWaiting}
+use Rattle.hold_sdflex.specs.inner.Waiting.{AreWaiting}
 use Rattle.hold_sdflex.proofs.Pairing.{ArePairedFrom, seen, paired_one, none_paired, nowhere}
 use Rattle.hold_sdflex.proofs.pair.pair.Goals as goal
 

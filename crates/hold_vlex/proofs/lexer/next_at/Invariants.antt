@@ -1,5 +1,5 @@
 use Rattle.std.proofs.Common.{◌≡◌, ◌≤◌, ◌-◌, length}
-use Rattle.hold_vlex.specs.Lexed.{lexed_at}
+use Rattle.hold_vlex.specs.inner.Lexed.{lexed_at}
 use Rattle.hold_vlex.proofs.lexer.next_at.Given as goal
 
 -- what is left to be read is what was to be read at the start

@@ -1,7 +1,7 @@
 -- within_after within b: where the byte after b stands, where b stands within so.
 -- is_plain within: in no string.
 use Rattle.std.specs.Prelude.{ℕ, Bool, true, false, ◌==◌, if◌then◌else◌}
-use Rattle.hold_vlex.specs.Bytes.{quote, backslash}
+use Rattle.hold_text.specs.Blanks.{quote, backslash}
 use Rattle.hold_vlex.specs.declared.past.Within.{Within}
 use Rattle.hold_vlex.specs.declared.past.Within.TheVariants.{Plain, Quoted, Slashed}
 
