@@ -11,11 +11,12 @@ use Rattle.hold_base.specs.declared.time.Side.{Side}
 use Rattle.hold_base.specs.declared.time.Side.TheVariants.{Early, Late}
 use Rattle.hold_graph.specs.declared.problem.Spans.{Spans}
 use Rattle.hold_graph.specs.declared.problem.Problem.{Problem}
-use Rattle.hold_graph.specs.Problem.{IsWithin, IsSpan, IsValidCorner, launch_limit, time_limit}
+use Rattle.hold_graph.specs.Problem.{IsWithin, IsSpan, IsValidCorner}
+use Rattle.hold_base.specs.Limits.{launch_limit, time_limit}
 use Rattle.hold_graph.specs.declared.graph.Arc.{Arc}
-use Rattle.hold_graph.specs.Order.{IsInto}
+use Rattle.hold_graph.specs.inner.Order.{IsInto}
 use Rattle.hold_graph.specs.Sums.{items_at}
-use Rattle.hold_graph.specs.Arrival.{weight, lesser, least_from, IsLeastByPin, AreWithin, checks_of, left, offer, sum_limit}
+use Rattle.hold_graph.specs.inner.Arrival.{weight, lesser, least_from, IsLeastByPin, AreWithin, checks_of, left, offer, sum_limit}
 use Rattle.hold_graph.proofs.Pass.{OptionWithin, lesser-within, offer-within, place_below, within_weaker}
 
 within-neg : (limit : ℕ) (time : ℤ) → IsWithin limit time → IsWithin limit (neg_ℤ time)

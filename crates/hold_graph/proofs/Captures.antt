@@ -10,7 +10,7 @@ use Rattle.hold_graph.specs.declared.problem.Spans.{Spans}
 use Rattle.hold_graph.specs.declared.problem.Problem.{Problem}
 use Rattle.hold_graph.specs.Graph.{IsNumbered}
 use Rattle.hold_graph.specs.Problem.{IsValidCorner}
-use Rattle.hold_graph.specs.Arrival.{weight, coming, left_at, left_by, base_of, AreTables, IsEnough, IsMetAt, IsShort, IsSettled, IsFound}
+use Rattle.hold_graph.specs.inner.Arrival.{weight, coming, left_at, left_by, base_of, AreTables, IsEnough, IsMetAt, IsShort, IsSettled, IsFound}
 use Rattle.hold_graph.proofs.Excess.{met_from, found_excess, IsExcess}
 
 left_by-left_at : (side : Side) (parts : Parts) (spans : Spans) (period : ℤ) (into : List (Option ℕ)) (best ends checks : List (Option ℤ)) (capture : PinNo)

@@ -12,10 +12,11 @@ use Rattle.hold_graph.specs.declared.problem.Spans.{Spans}
 use Rattle.hold_graph.specs.declared.problem.Problem.{Problem}
 use Rattle.hold_graph.specs.Graph.{IsNumbered}
 use Rattle.hold_graph.specs.Path.{last_pin, IsCheckedPath}
-use Rattle.hold_graph.specs.Sums.{no_buffers, hull_of, greatest_of, items_at}
+use Rattle.hold_graph.specs.Sums.{no_buffers, greatest_of, items_at}
+use Rattle.hold_base.specs.Interval.{hull_of}
 use Rattle.hold_graph.specs.Problem.{IsValidCorner}
 use Rattle.hold_graph.specs.Met.{excess, capture_at}
-use Rattle.hold_graph.specs.Arrival.{least_at, weight, opposite, AtMost, coming, signed_steps, IsFound, checks_of, base_of, left, AreTables, left_at}
+use Rattle.hold_graph.specs.inner.Arrival.{least_at, weight, opposite, AtMost, coming, signed_steps, IsFound, checks_of, base_of, left, AreTables, left_at}
 use Rattle.hold_graph.proofs.Starts.{IsListed, least_at-weights, least_at-negated, listed_from_least}
 use Rattle.hold_graph.proofs.Walks.{no_path_below, start_at_most}
 

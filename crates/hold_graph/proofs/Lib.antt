@@ -8,3 +8,4 @@ pub mod Orders
 pub mod Pass
 pub mod Bounds
 pub mod Captures
+pub mod SiteExamples

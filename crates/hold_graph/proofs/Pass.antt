@@ -9,9 +9,10 @@ use Rattle.std.proofs.lemmas.Option.{slice_get-get_or, slice_get_read, slice_get
 use Rattle.hold_base.specs.declared.number.PinNo.{PinNo}
 use Rattle.hold_graph.specs.declared.graph.Arc.{Arc}
 use Rattle.hold_graph.specs.Graph.{Rises}
-use Rattle.hold_graph.specs.Order.{IsInto, IsOrder}
-use Rattle.hold_graph.specs.Problem.{IsWithin, launch_limit}
-use Rattle.hold_graph.specs.Arrival.{lesser, extended, origin, offer, AreWithin, IsRight}
+use Rattle.hold_graph.specs.inner.Order.{IsInto, IsOrder}
+use Rattle.hold_graph.specs.Problem.{IsWithin}
+use Rattle.hold_base.specs.Limits.{launch_limit}
+use Rattle.hold_graph.specs.inner.Arrival.{lesser, extended, origin, offer, AreWithin, IsRight}
 
 -- the pins of the first n turns are right
 pub record AreRightUpTo (arcs : List Arc) (steps : List ℤ) (starts : List (Option ℤ)) (into : List (Option ℕ)) (order : List PinNo) (n : ℕ) (best : List (Option ℤ)) : Type 0 where

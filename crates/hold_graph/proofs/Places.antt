@@ -1,20 +1,20 @@
--- The table of the arcs that end at each pin, made arc by arc; and a table of least numbers, made number by number.
+-- The table of the arcs that end at each pin, made arc by arc, and what it tells of them.
 use Rattle.std.proofs.Common.{◌≡◌, ℕ, ◌+◌, ◌<◌, List, length, ap, sym, ◌∙◌, arith, get_or, set, ◌⊎◌, inl, inr}
-use Rattle.std.specs.Prelude.{Option, Some, None, slice_get}
+use Rattle.std.specs.Prelude.{Option, Some, None, slice_get, slice_index_or}
 use Rattle.std.proofs.lemmas.List.{get_or-set_same, get_or-set_other}
 use Rattle.std.proofs.lemmas.Option.{slice_get_within, same_Some}
 use Rattle.std.proofs.lemmas.Bool.{cases_eq}
 use Rattle.hold_base.specs.declared.number.PinNo.{PinNo}
 use Rattle.hold_graph.specs.declared.graph.Arc.{Arc}
 use Rattle.hold_graph.specs.Graph.{EndsOnce}
-use Rattle.hold_graph.specs.Order.{IsInto}
+use Rattle.hold_graph.specs.inner.Order.{IsInto}
 
 -- the table has the first n arcs
 pub record IsIntoUpTo (arcs : List Arc) (n : ℕ) (into : List (Option ℕ)) : Type 0 where
   pub ends : (place : ℕ) (arc : Arc) → place < n → slice_get arcs place ≡ Some arc → get_or into arc.to.0 None ≡ Some place
   pub only : (pin place : ℕ) → get_or into pin None ≡ Some place → (arc : Arc) × (slice_get arcs place ≡ Some arc) × (arc.to.0 ≡ pin)
 
-same_pin : (a b : PinNo) → a.0 ≡ b.0 → a ≡ b
+pub same_pin : (a b : PinNo) → a.0 ≡ b.0 → a ≡ b
 same_pin a b e = ap (λ (n : ℕ). let q : PinNo = record { 0 = n } in q) e
 
 pub into_more : (arcs : List Arc) (n : ℕ) (arc : Arc) (into : List (Option ℕ)) → EndsOnce arcs → slice_get arcs n ≡ Some arc → arc.to.0 < length into →
@@ -44,3 +44,8 @@ into_all arcs n into len h = record {
   ends = λ place arc is. h.ends place arc (let lt = slice_get_within arcs place arc is in omega arith) is;
   only = h.only;
 }
+
+-- where each arc is the one that its pin tells of, no two end at one pin
+pub into_once : (arcs : List Arc) (into : List (Option ℕ)) → IsInto arcs into → EndsOnce arcs
+into_once arcs into h = λ i j a b at_i at_j same.
+    same_Some i j (sym (h.ends i a at_i) ∙ ap (λ (pin : PinNo). slice_index_or into pin.0 None) same ∙ h.ends j b at_j)

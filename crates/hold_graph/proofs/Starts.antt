@@ -4,8 +4,11 @@ use Rattle.std.specs.Prelude.{Some, None, ℤ, neg_ℤ}
 use Rattle.hold_base.specs.declared.number.PinNo.{PinNo}
 use Rattle.hold_base.specs.declared.time.Interval.{Interval}
 use Rattle.hold_base.specs.declared.time.Side.{Side}
-use Rattle.hold_graph.specs.Sums.{hull_of, greatest_of, items_at}
-use Rattle.hold_graph.specs.Arrival.{weight, least_from, least_at}
+use Rattle.hold_base.specs.Interval.{hull_of}
+use Rattle.hold_base.proofs.Bools.{cond-cases}
+use Rattle.hold_graph.specs.Sums.{greatest_of, items_at}
+use Rattle.hold_graph.specs.inner.Arrival.{weight, least_from, least_at}
+use Rattle.hold_graph.proofs.Places.{same_pin}
 use Rattle.hold_graph.proofs.Weights.{items_at-map, least_from-weights, least_from-negated}
 
 -- a list has an item
@@ -40,23 +43,18 @@ pub record IsListed (pins : List PinNo) (pin : PinNo) : Type 0 where
 listed_more : (p : PinNo) (pins : List PinNo) (pin : PinNo) → IsListed pins pin → IsListed (p ∷ pins) pin
 listed_more p pins pin h = record { place = suc h.place; below = omega arith; at = h.at }
 
-from_cond : {A : Type 0} (b : Bool) (item first : A) (rest more : List A) → cond b (item ∷ rest) rest ≡ first ∷ more → (b ≡ true) ⊎ (rest ≡ first ∷ more)
-from_cond true item first rest more e = inl refl
-from_cond false item first rest more e = inr e
-
 -- an item for a pin comes from a list that names it
 pub listed_from_items : {A : Type 0} (pins : List PinNo) (items : List A) (pin : PinNo) (first : A) (more : List A) →
     items_at pins items pin ≡ first ∷ more → IsListed pins pin
 listed_from_items [] items pin first more e = cc
 listed_from_items (p ∷ pins) [] pin first more e = cc
 listed_from_items (p ∷ pins) (item ∷ items) pin first more e =
-    by_case p pin pins (from_cond (p.0 == pin.0) item first (items_at pins items pin) more e) (λ h. listed_from_items pins items pin first more h)
+    by_case (cond-cases (p.0 == pin.0) (item ∷ items_at pins items pin) (items_at pins items pin) (first ∷ more) e)
+    (λ h. listed_from_items pins items pin first more h)
   where
-    by_case : {P : Type 0} (p pin : PinNo) (pins : List PinNo) → (((p.0 == pin.0) ≡ true) ⊎ P) → (P → IsListed pins pin) → IsListed (p ∷ pins) pin
-    by_case p pin pins (inl h) more =
-        let same : p.0 ≡ pin.0 = grind arith in
-        record { place = 0; below = omega arith; at = ap (λ (n : ℕ). let q : PinNo = record { 0 = n } in q) same }
-    by_case p pin pins (inr h) more = listed_more p pins pin (more h)
+    by_case : {P Q : Type 0} → (((p.0 == pin.0) ≡ true) × P) ⊎ (((p.0 == pin.0) ≡ false) × Q) → (Q → IsListed pins pin) → IsListed (p ∷ pins) pin
+    by_case (inl here) later = record { place = 0; below = omega arith; at = same_pin p pin (let h = here.0 in grind arith) }
+    by_case (inr there) later = listed_more p pins pin (later there.1)
 
 least-weights : (side : Side) (spans : List Interval) → IsSomeItem spans →
     least_from None (map (weight side) spans) ≡ Some (weight side (hull_of spans))

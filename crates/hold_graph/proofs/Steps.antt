@@ -12,8 +12,10 @@ use Rattle.hold_base.specs.declared.time.Side.TheVariants.{Early, Late}
 use Rattle.hold_graph.specs.declared.graph.Arc.{Arc}
 use Rattle.hold_graph.specs.declared.problem.Spans.{Spans}
 use Rattle.hold_graph.specs.Graph.{EndsOnce}
-use Rattle.hold_graph.specs.Sums.{end_of, hull_of, spans_between, added_from}
-use Rattle.hold_graph.specs.Arrival.{signed, weight}
+use Rattle.hold_graph.specs.Sums.{end_of, spans_between, added_from}
+use Rattle.hold_base.specs.Interval.{hull_of}
+use Rattle.hold_graph.specs.inner.Arrival.{signed, weight}
+use Rattle.hold_graph.proofs.Places.{same_pin}
 
 -- no arc of these ends at the pin
 abbrev pub NoneEnds : List Arc → PinNo → Type 0
@@ -31,9 +33,6 @@ spans_between-none (arc ∷ arcs) (span ∷ spans) a b none =
     skipped true true never span rest e = absurd (never refl)
     skipped true false never span rest e = e
     skipped false to never span rest e = e
-
-same_pin : (a b : PinNo) → a.0 ≡ b.0 → a ≡ b
-same_pin a b e = ap (λ (n : ℕ). let q : PinNo = record { 0 = n } in q) e
 
 EndsOnce-tail : (arc : Arc) (arcs : List Arc) → EndsOnce (arc ∷ arcs) → EndsOnce arcs
 EndsOnce-tail arc arcs once = λ i j a b at_i at_j e. let s : suc i ≡ suc j = once (suc i) (suc j) a b at_i at_j e in omega arith

@@ -10,7 +10,8 @@ use Rattle.hold_base.specs.declared.time.Side.TheVariants.{Early, Late}
 use Rattle.hold_graph.specs.declared.graph.Arc.{Arc}
 use Rattle.hold_graph.specs.declared.problem.Spans.{Spans}
 use Rattle.hold_graph.specs.Path.{HasArc, EachNext, last_pin}
-use Rattle.hold_graph.specs.Arrival.{signed, weight, lesser, AtMost, extended, origin, offer, IsRight, coming, signed_steps, IsSettled, IsFound, CameBy}
+use Rattle.hold_graph.specs.inner.Arrival.{signed, weight, lesser, AtMost, extended, origin, offer, IsRight, coming, signed_steps, IsSettled, IsFound, CameBy}
+use Rattle.hold_graph.proofs.Places.{same_pin, into_once}
 use Rattle.hold_graph.proofs.Steps.{step_of, step_of-arc, signed-add}
 
 AtMost-extended : (o : Option ℤ) (x w : ℤ) → AtMost o x → AtMost (extended o w) (x +ℤ w)
@@ -47,7 +48,7 @@ pub coming-arc : (side : Side) (pins : ℕ) (arcs : List Arc) (spans : Spans) (s
     IsSettled side pins arcs spans starts into best → (place : ℕ) (arc : Arc) → slice_get arcs place ≡ Some arc →
     coming side arcs spans into best arc.to ≡ extended (get_or best arc.from.0 None) (step_of side arcs spans arc.from arc.to)
 coming-arc side pins arcs spans starts into best h place arc at =
-    let step = step_of-arc side arcs spans place arc h.once h.each at in
+    let step = step_of-arc side arcs spans place arc (into_once arcs into h.places) h.each at in
     let e : get_or into arc.to.0 None ≡ Some place = h.places.ends place arc at in
     let weights : List ℤ = map (weight side) spans.arcs in
     ap (offer arcs weights best) e
@@ -120,9 +121,6 @@ extended-extended : (o : Option ℤ) (x y : ℤ) → extended (extended o x) y �
 extended-extended None x y = refl
 extended-extended (Some a) x y = ap (λ (z : ℤ). Some z) (omega (arith, ints))
 
-same_pin : (a b : PinNo) → a.0 ≡ b.0 → a ≡ b
-same_pin a b e = ap (λ (n : ℕ). let q : PinNo = record { 0 = n } in q) e
-
 -- one step back along the arc that ends at the pin
 pub tail_more : (side : Side) (pins : ℕ) (arcs : List Arc) (spans : Spans) (starts : List (Option ℤ)) (into : List (Option ℕ)) (best : List (Option ℤ)) →
     IsSettled side pins arcs spans starts into best → (pin : PinNo) (rest : List PinNo) (capture : PinNo) (sum : ℤ) (place : ℕ) (arc : Arc) →
@@ -145,17 +143,6 @@ tail_more side pins arcs spans starts into best h pin rest capture sum place arc
           ∙ ap (λ (o : Option ℤ). extended o (signed_steps side arcs spans pin rest)) (sym (comes side pins arcs spans starts into best h arc.from pin there))
           ∙ value;
     }
-
--- the first step back, from a capture to which a number comes
-pub tail_start : (side : Side) (pins : ℕ) (arcs : List Arc) (spans : Spans) (starts : List (Option ℤ)) (into : List (Option ℕ)) (best : List (Option ℤ)) →
-    IsSettled side pins arcs spans starts into best → (capture : PinNo) (sum : ℤ) (place : ℕ) (arc : Arc) →
-    get_or into capture.0 None ≡ Some place → slice_get arcs place ≡ Some arc →
-    coming side arcs spans into best capture ≡ Some sum →
-    IsTail side arcs spans best arc.from (capture ∷ []) capture sum
-tail_start side pins arcs spans starts into best h capture sum place arc in_place at comes_there =
-    tail_more side pins arcs spans starts into best h capture [] capture sum place arc in_place at tt refl
-    (ap (λ (o : Option ℤ). extended o (signed side (pos 0))) comes_there
-    ∙ ap (λ (z : ℤ). Some z) (let zero = signed-zero side in omega (arith, ints, zero)))
 
 -- where a walk begins at the pin: its start and the steps after it have the sum
 pub record IsBegun (side : Side) (arcs : List Arc) (spans : Spans) (starts : List (Option ℤ)) (pin : PinNo) (rest : List PinNo) (sum : ℤ) : Type 0 where
@@ -186,19 +173,6 @@ pub record IsBack (side : Side) (arcs : List Arc) (spans : Spans) (starts : List
 coming-none : (side : Side) (arcs : List Arc) (spans : Spans) (into : List (Option ℕ)) (best : List (Option ℤ)) (pin : PinNo) →
     get_or into pin.0 None ≡ None → coming side arcs spans into best pin ≡ None
 coming-none side arcs spans into best pin e = ap (offer arcs (map (weight side) spans.arcs) best) e
-
--- before the first step
-pub back_none : (side : Side) (arcs : List Arc) (spans : Spans) (starts : List (Option ℤ)) (into : List (Option ℕ)) (best : List (Option ℤ)) (capture : PinNo) (sum : ℤ) →
-    coming side arcs spans into best capture ≡ Some sum →
-    IsBack side arcs spans starts into best capture [] (get_or into capture.0 None) capture sum
-back_none side arcs spans starts into best capture sum comes_there = record {
-  next = tt;
-  last = refl;
-  begun = λ e. absurd (none-some sum (sym (coming-none side arcs spans into best capture e) ∙ comes_there));
-  place = λ k e. e;
-  value = λ k e. ap (λ (o : Option ℤ). extended o (signed side (pos 0))) comes_there
-      ∙ ap (λ (z : ℤ). Some z) (let zero = signed-zero side in omega (arith, ints, zero));
-}
 
 lesser-none : (o : Option ℤ) → lesser o None ≡ o
 lesser-none None = refl

@@ -1,18 +1,16 @@
 -- What signed ends and their least numbers have to do with hulls and greatest times.
-use Rattle.std.proofs.Common.{◌≡◌, ◌==◌, List, [], ◌∷◌, map, cond, Bool, true, false, refl, ap, sym, ◌∙◌, arith}
+use Rattle.std.proofs.Common.{◌≡◌, ◌==◌, List, [], ◌∷◌, map, refl, ap, sym, ◌∙◌}
 use Rattle.std.specs.Prelude.{Some, ℤ, neg_ℤ, fold}
 use Rattle.std.specs.Int.{int_min, int_max}
-use Rattle.std.proofs.lemmas.Int.{ints, clamps}
+use Rattle.hold_base.proofs.Bools.{cond-same, map-cond}
+use Rattle.hold_base.proofs.Orders.{int_min-neg}
 use Rattle.hold_base.specs.declared.number.PinNo.{PinNo}
 use Rattle.hold_base.specs.declared.time.Interval.{Interval}
 use Rattle.hold_base.specs.declared.time.Side.{Side}
 use Rattle.hold_base.specs.declared.time.Side.TheVariants.{Early, Late}
-use Rattle.hold_graph.specs.Sums.{hull, items_at}
-use Rattle.hold_graph.specs.Arrival.{weight, least_from}
-
--- the least of negated numbers
-pub int_min-neg : (a b : ℤ) → int_min (neg_ℤ a) (neg_ℤ b) ≡ neg_ℤ (int_max a b)
-int_min-neg a b = omega (arith, ints, clamps)
+use Rattle.hold_base.specs.Interval.{hull}
+use Rattle.hold_graph.specs.Sums.{items_at}
+use Rattle.hold_graph.specs.inner.Arrival.{weight, least_from}
 
 pub weight-hull : (side : Side) (a b : Interval) → int_min (weight side a) (weight side b) ≡ weight side (hull a b)
 weight-hull Early a b = refl
@@ -31,14 +29,6 @@ least_from-negated first [] = refl
 least_from-negated first (time ∷ times) =
     ap (λ (w : ℤ). least_from (Some w) (map neg_ℤ times)) (int_min-neg first time)
     ∙ least_from-negated (int_max first time) times
-
-map-cond : {A B : Type 0} (f : A → B) (b : Bool) (xs ys : List A) → map f (cond b xs ys) ≡ cond b (map f xs) (map f ys)
-map-cond f true xs ys = refl
-map-cond f false xs ys = refl
-
-cond-same : {A : Type 0} (b : Bool) (x x' y y' : A) → x ≡ x' → y ≡ y' → cond b x y ≡ cond b x' y'
-cond-same true x x' y y' e f = e
-cond-same false x x' y y' e f = f
 
 pub items_at-map : {A B : Type 0} (f : A → B) (pins : List PinNo) (items : List A) (pin : PinNo) →
     items_at pins (map f items) pin ≡ map f (items_at pins items pin)

@@ -2,9 +2,7 @@
 -- IsNumbered parts: every pin that a list of the parts names is below `pins`. Empty lists name none.
 -- EndsOnce arcs: no two arcs, at different places, end at one pin. So no two arcs join the same two pins.
 -- Rises arcs ranks: each arc runs from a pin of lower rank to one of higher rank. A pin past the ranks has rank 0.
--- IsRanked parts ranks: the pins named are there, each pin has its rank, and ranks rise along each arc. So no
---   walk along arcs comes back to a pin.
-use Rattle.std.specs.Prelude.{◌≡◌, ℕ, ◌<◌, List, Some, length, slice_get, slice_index, All}
+use Rattle.std.specs.Prelude.{◌≡◌, ℕ, ◌<◌, List, Some, slice_get, slice_index, All}
 use Rattle.hold_base.specs.declared.number.PinNo.{PinNo}
 use Rattle.hold_graph.specs.declared.graph.Arc.{Arc}
 use Rattle.hold_graph.specs.declared.graph.Parts.{Parts}
@@ -26,8 +24,3 @@ EndsOnce arcs = (i j : ℕ) (a b : Arc) → slice_get arcs i ≡ Some a → slic
 
 abbrev pub Rises : List Arc → List ℕ → Type 0
 Rises arcs ranks = All (λ arc. slice_index ranks arc.from.0 < slice_index ranks arc.to.0) arcs
-
-pub record IsRanked (parts : Parts) (ranks : List ℕ) : Type 0 where
-  pub numbers : IsNumbered parts
-  pub each : length ranks ≡ parts.pins
-  pub rising : Rises parts.arcs ranks

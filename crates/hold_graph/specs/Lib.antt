@@ -3,8 +3,5 @@ pub mod Path
 pub mod Sums
 pub mod Problem
 pub mod Met
-pub mod Arrival
-pub mod Ordered
-pub mod Order
-pub mod Tables
 pub mod Sites
+pub mod inner

@@ -19,7 +19,8 @@ use Rattle.hold_graph.specs.declared.problem.Spans.{Spans}
 use Rattle.hold_graph.specs.declared.problem.Problem.{Problem}
 use Rattle.hold_graph.specs.declared.problem.Listed.{Listed}
 use Rattle.hold_graph.specs.Path.{IsCheckedPath, end_pin}
-use Rattle.hold_graph.specs.Sums.{Buffers, early_sum, late_sum, hull_of, greatest_of, items_at}
+use Rattle.hold_graph.specs.Sums.{Buffers, early_sum, late_sum, greatest_of, items_at}
+use Rattle.hold_base.specs.Interval.{hull_of}
 
 abbrev pub capture_at : Parts → Spans → PinNo → Interval
 capture_at parts spans pin = hull_of (items_at parts.captures spans.capture pin)

@@ -1,5 +1,3 @@
--- time_limit: the greatest magnitude of a time, 10 us in fs. launch_limit: the same of a launch, which is a clock
---   arrival and a delay, 20 us.
 -- IsWithin limit time: the time is at most the limit in magnitude; it may be below 0.
 -- IsSpan limit span: the ends of the span stand in order, and both are within the limit.
 -- IsValidCorner problem spans: the spans of a corner have one entry for each arc, launch, capture and kind, all in
@@ -8,19 +6,12 @@
 --   2^20 pins, 2^22 arcs and 8 kinds, each kind's cost is from 1 to 10^6, the chain limit is at most 16, and the
 --   period is from 1 fs to 10 us. It may have no pin, no kind, no arc, launch or capture. Its graph may list a pin
 --   more than once.
-use Rattle.std.specs.Prelude.{◌≡◌, ℕ, ◌^◌, ◌≤◌, length, All, ℤ, pos, neg_ℤ, ◌≤ℤ◌}
+use Rattle.std.specs.Prelude.{◌≡◌, ℕ, ◌≤◌, length, All, ℤ, pos, neg_ℤ, ◌≤ℤ◌}
 use Rattle.hold_base.specs.Interval.{IsOrdered}
+use Rattle.hold_base.specs.Limits.{time_limit, launch_limit, arcs_limit, bound_pins_limit, corners_limit, kinds_limit, cost_limit, chain_limit}
 use Rattle.hold_base.specs.declared.time.Interval.{Interval}
 use Rattle.hold_graph.specs.declared.problem.Spans.{Spans}
 use Rattle.hold_graph.specs.declared.problem.Problem.{Problem}
-
--- the greatest magnitude of a time: 10 us
-abbrev pub time_limit : ℕ
-time_limit = 10000000000
-
--- the same for a launch, which is a clock arrival and a delay
-abbrev pub launch_limit : ℕ
-launch_limit = 20000000000
 
 pub record IsWithin (limit : ℕ) (time : ℤ) : Type 0 where
   pub low : neg_ℤ (pos limit) ≤ℤ time
@@ -47,14 +38,14 @@ pub record IsValidCorner (problem : Problem) (spans : Spans) : Type 0 where
   pub kinds_least : All (λ kind. pos 0 ≤ℤ kind.least) spans.kinds
 
 pub record IsValid (problem : Problem) : Type 0 where
-  pub pins : problem.graph.pins ≤ 2 ^ 20
-  pub arcs : length problem.graph.arcs ≤ 2 ^ 22
+  pub pins : problem.graph.pins ≤ bound_pins_limit
+  pub arcs : length problem.graph.arcs ≤ arcs_limit
   pub some_corner : 1 ≤ length problem.corners
-  pub corner_limit : length problem.corners ≤ 8
-  pub kinds : length problem.costs ≤ 8
+  pub corner_limit : length problem.corners ≤ corners_limit
+  pub kinds : length problem.costs ≤ kinds_limit
   pub costs_least : All (λ cost. 1 ≤ cost) problem.costs
-  pub costs_most : All (λ cost. cost ≤ 1000000) problem.costs
-  pub max_chain : problem.max_chain ≤ 16
+  pub costs_most : All (λ cost. cost ≤ cost_limit) problem.costs
+  pub max_chain : problem.max_chain ≤ chain_limit
   pub period_least : pos 1 ≤ℤ problem.period
   pub period_most : problem.period ≤ℤ pos time_limit
   pub corners : All (IsValidCorner problem) problem.corners

@@ -10,9 +10,11 @@
 -- IsBuffering problem sites counts: each variable has a count from 0 to 16, and no site has more than `max_chain`.
 -- cost_from costs var counts: the cost of these counts, where the first is that of the variable `var`.
 -- cost_of costs counts: each count times its kind's cost, summed. Where there is no kind there is no variable and no cost.
--- Meets problem sites counts: the counts are a buffering over these pins, and with it the problem is met. It means something
---   of the graph's sites alone (`AreSites`).
+-- Meets problem sites counts: the sites are the problem's, the counts are a buffering over them, and with it the problem is
+--   met. Where the problem has a site, no empty list of sites meets it.
+-- Worked examples, in proofs/SiteExamples: cost-one_site, cost-two_sites, kept-no_site, unchecked-no_site, no_sites-buffering, no_sites-unmet.
 use Rattle.std.specs.Prelude.{◌≡◌, ℕ, ◌+◌, ◌*◌, ◌%◌, ◌<◌, ◌≤◌, ◌==◌, true, List, [], ◌∷◌, ◌++◌, length, sum, position, Option, Some, None, slice_get, slice_index, slice_range, Contains, All}
+use Rattle.hold_base.specs.Limits.{chain_limit}
 use Rattle.hold_base.specs.declared.number.PinNo.{PinNo}
 use Rattle.hold_graph.specs.declared.graph.Parts.{Parts}
 use Rattle.hold_graph.specs.declared.problem.Problem.{Problem}
@@ -50,7 +52,7 @@ chain_sum kinds counts site = sum (slice_range counts (site * kinds) (site * kin
 
 pub record IsBuffering (problem : Problem) (sites : List PinNo) (counts : List ℕ) : Type 0 where
   pub each : length counts ≡ length sites * length problem.costs
-  pub most : All (λ count. count ≤ 16) counts
+  pub most : All (λ count. count ≤ chain_limit) counts
   pub chains : (site : ℕ) → site < length sites → chain_sum (length problem.costs) counts site ≤ problem.max_chain
 
 -- the cost of the counts of the variables from this one on
@@ -62,5 +64,6 @@ abbrev pub cost_of : List ℕ → List ℕ → ℕ
 cost_of costs counts = cost_from costs 0 counts
 
 pub record Meets (problem : Problem) (sites : List PinNo) (counts : List ℕ) : Type 0 where
+  pub of_graph : AreSites problem.graph sites
   pub buffering : IsBuffering problem sites counts
   pub met : IsMet problem (buffers_of (length problem.costs) sites counts)

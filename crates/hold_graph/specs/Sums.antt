@@ -1,6 +1,4 @@
 -- end_of side span: the end that the side looks at, the least of an early span and the greatest of a late one.
--- hull a b: the least interval that has both of these.
--- hull_of spans: the least interval that has all of these. The hull of none is 0 to 0.
 -- greatest_of times: the greatest of these times, and 0 where there is none.
 -- items_at pins items pin: the items that stand at those places where `pins` names the pin. An item without a pin,
 --   or a pin without an item, counts for nothing.
@@ -18,7 +16,8 @@
 --   added as they are.
 -- early_sum, late_sum: that sum of the least ends, and of the greatest.
 use Rattle.std.specs.Prelude.{ℕ, ◌+◌, ◌==◌, ◌&&◌, if◌then◌else◌, List, [], ◌∷◌, fold, ℤ, pos, ◌+ℤ◌, ◌*ℤ◌}
-use Rattle.std.specs.Int.{int_min, int_max}
+use Rattle.std.specs.Int.{int_max}
+use Rattle.hold_base.specs.Interval.{hull_of}
 use Rattle.hold_base.specs.declared.number.PinNo.{PinNo}
 use Rattle.hold_base.specs.declared.time.Interval.{Interval}
 use Rattle.hold_base.specs.declared.time.Side.{Side}
@@ -30,14 +29,6 @@ use Rattle.hold_graph.specs.declared.problem.Spans.{Spans}
 abbrev pub end_of : Side → Interval → ℤ
 end_of Early span = span.least
 end_of Late span = span.greatest
-
--- the least interval that has both
-abbrev pub hull : Interval → Interval → Interval
-hull a b = record { least = int_min a.least b.least; greatest = int_max a.greatest b.greatest }
-
-abbrev pub hull_of : List Interval → Interval
-hull_of [] = record { least = pos 0; greatest = pos 0 }
-hull_of (span ∷ spans) = fold hull span spans
 
 abbrev pub greatest_of : List ℤ → ℤ
 greatest_of [] = pos 0

@@ -1,7 +1,8 @@
 ghost use Rattle.std.specs.Prelude.{◌≡◌, ℕ, ◌^◌, ◌<◌, ◌≤◌, length, IfOk, All, Some};
-ghost use Rattle.hold_graph.specs.Problem.{IsWithin, launch_limit};
-ghost use Rattle.hold_graph.specs.Arrival.{extended, offer, sum_limit, AreWithin, IsRight};
-ghost use Rattle.hold_graph.specs.Ordered.{IsInOrder};
+ghost use Rattle.hold_graph.specs.Problem.{IsWithin};
+ghost use Rattle.hold_base.specs.Limits.{launch_limit};
+ghost use Rattle.hold_graph.specs.inner.Arrival.{extended, offer, sum_limit, AreWithin, IsRight};
+ghost use Rattle.hold_graph.specs.inner.Ordered.{IsInOrder};
 
 use crate::graph::{Arc, Ordered};
 use crate::table::lesser;

@@ -1,9 +1,10 @@
 ghost use Rattle.std.specs.Prelude.{◌≡◌, ◌+◌, ◌<◌, IfSome, IfNone, Some, All, Contains, pos, neg_ℤ, ◌+ℤ◌, ◌<ℤ◌, ◌≤ℤ◌, ◌^◌};
 ghost use Rattle.hold_graph.specs.Graph.{AreBelow};
-ghost use Rattle.hold_graph.specs.Problem.{IsWithin, launch_limit, time_limit};
-ghost use Rattle.hold_graph.specs.Arrival.{base_of, left, left_by, sum_limit, IsEnough};
-ghost use Rattle.hold_graph.specs.Ordered.{IsInOrder};
-ghost use Rattle.hold_graph.specs.Tables.{AreSized};
+ghost use Rattle.hold_graph.specs.Problem.{IsWithin};
+ghost use Rattle.hold_base.specs.Limits.{launch_limit, time_limit};
+ghost use Rattle.hold_graph.specs.inner.Arrival.{base_of, left, left_by, sum_limit, IsEnough};
+ghost use Rattle.hold_graph.specs.inner.Ordered.{IsInOrder};
+ghost use Rattle.hold_graph.specs.inner.Tables.{AreSized};
 
 use crate::arrival::offer;
 use crate::graph::Ordered;

@@ -1,6 +1,7 @@
 ghost use Rattle.std.specs.Prelude.{◌≡◌, IfOk, map, neg_ℤ, All};
-ghost use Rattle.hold_graph.specs.Problem.{IsSpan, IsWithin, launch_limit, time_limit};
-ghost use Rattle.hold_graph.specs.Arrival.{opposite, weight};
+ghost use Rattle.hold_graph.specs.Problem.{IsSpan, IsWithin};
+ghost use Rattle.hold_base.specs.Limits.{launch_limit, time_limit};
+ghost use Rattle.hold_graph.specs.inner.Arrival.{opposite, weight};
 
 use hold_base::{Interval, Memory, Side};
 use std::alloc::Global;

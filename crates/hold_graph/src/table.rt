@@ -1,6 +1,6 @@
 ghost use Rattle.std.specs.Prelude.{◌≡◌, ◌<◌, IfOk, length};
 ghost use Rattle.hold_graph.specs.Graph.{AreBelow};
-ghost use Rattle.hold_graph.specs.Arrival.{lesser, IsLeastByPin};
+ghost use Rattle.hold_graph.specs.inner.Arrival.{lesser, IsLeastByPin};
 
 use hold_base::{Memory, PinNo};
 use std::alloc::Global;

@@ -1,9 +1,8 @@
-ghost use Rattle.hold_graph.specs.Tables.{AreSized, AreTablesOf};
-ghost use Rattle.hold_graph.specs.Ordered.{IsOrderedOf};
+ghost use Rattle.hold_graph.specs.inner.Tables.{AreSized, AreTablesOf};
+ghost use Rattle.hold_graph.specs.inner.Ordered.{IsOrderedOf};
 ghost use Rattle.hold_graph.specs.Problem.{IsValid, IsValidCorner};
-ghost use Rattle.hold_graph.specs.Graph.{EndsOnce};
 ghost use Rattle.std.specs.Prelude.{◌≡◌, IfOk};
-ghost use Rattle.hold_graph.specs.Arrival.{checks_of};
+ghost use Rattle.hold_graph.specs.inner.Arrival.{checks_of};
 
 use crate::arrival::arrivals;
 use crate::graph::Ordered;
@@ -47,7 +46,6 @@ pub(crate) fn tables_of(
     side: Side,
 ) -> Result<Tables, Memory>
     requires valid { IsValid problem.now }
-    requires once { EndsOnce problem.now.graph.arcs }
     requires line { IsOrderedOf problem.now.graph line.now }
     requires corner { IsValidCorner problem.now spans.now }
     ensures sized { IfOk result (λ tables. AreSized line.now tables) }

@@ -1,8 +1,8 @@
 ghost use Rattle.std.specs.Prelude.{◌≡◌, ℕ, ◌<◌, ◌≤◌, length, slice_index_or, IfOk, IsSome, Some, None, ℤ};
 ghost use Rattle.hold_base.specs.declared.time.Side.{Side};
 ghost use Rattle.hold_graph.specs.declared.problem.Spans.{Spans as CornerSpans};
-ghost use Rattle.hold_graph.specs.Arrival.{coming, CameBy, IsFound, IsSettled};
-ghost use Rattle.hold_graph.specs.Ordered.{IsInOrder};
+ghost use Rattle.hold_graph.specs.inner.Arrival.{coming, CameBy, IsFound, IsSettled};
+ghost use Rattle.hold_graph.specs.inner.Ordered.{IsInOrder};
 
 use crate::graph::Ordered;
 use hold_base::{Memory, PinNo};

@@ -1,10 +1,9 @@
 ghost use Rattle.std.specs.Prelude.{IfOk, IfSome, IfNone};
-ghost use Rattle.hold_graph.specs.Graph.{EndsOnce};
 ghost use Rattle.hold_graph.specs.Problem.{IsValid, IsValidCorner};
 ghost use Rattle.hold_graph.specs.Sums.{no_buffers};
 ghost use Rattle.hold_graph.specs.Met.{IsMet, Misses};
-ghost use Rattle.hold_graph.specs.Arrival.{IsMetAt, IsShort};
-ghost use Rattle.hold_graph.specs.Ordered.{IsOrderedOf};
+ghost use Rattle.hold_graph.specs.inner.Arrival.{IsMetAt, IsShort};
+ghost use Rattle.hold_graph.specs.inner.Ordered.{IsOrderedOf};
 
 use crate::graph::Ordered;
 use crate::problem::{Listed, Problem, Spans};
@@ -23,7 +22,6 @@ fn short_path(
     side: Side,
 ) -> Result<Option<(Vec<PinNo>, i64)>, Memory>
     requires valid { IsValid problem.now }
-    requires once { EndsOnce problem.now.graph.arcs }
     requires line { IsOrderedOf problem.now.graph line.now }
     requires corner { IsValidCorner problem.now spans.now }
     ensures met { IfOk result (λ found. IfNone found (IsMetAt side problem.now spans.now)) }
@@ -49,7 +47,6 @@ fn short_in_corner(
     spans: &Spans,
 ) -> Result<Option<(Side, Vec<PinNo>, i64)>, Memory>
     requires valid { IsValid problem.now }
-    requires once { EndsOnce problem.now.graph.arcs }
     requires line { IsOrderedOf problem.now.graph line.now }
     requires corner { IsValidCorner problem.now spans.now }
     ensures early { IfOk result (λ found. IfNone found (IsMetAt Side.Early problem.now spans.now)) }
@@ -69,7 +66,6 @@ fn short_in_corner(
 /// every checked path meets both its checks in every corner. Corners and sides are asked in their order.
 pub fn worst_line(alloc: Global, problem: &Problem) -> Result<Option<(Listed, i64)>, Memory>
     requires valid { IsValid problem.now }
-    requires once { EndsOnce problem.now.graph.arcs }
     ensures met { IfOk result (λ found. IfNone found (IsMet problem.now no_buffers)) }
     ensures missed { IfOk result (λ found. IfSome found (λ miss. Misses problem.now no_buffers miss.0 miss.1)) }
 {

@@ -10,4 +10,3 @@ pub mod UsePlaces
 pub mod UseTimes
 pub mod TableLemmas
 pub mod RegisterNames
-mod PlaceFacts

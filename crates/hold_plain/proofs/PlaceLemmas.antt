@@ -1,8 +1,9 @@
 -- Where a key first stands in a list of keys.
-use Rattle.std.proofs.Common.{◌≡◌, ℕ, zero, suc, ◌+◌, ◌<◌, ◌↔◌, List, [], ◌∷◌, length, refl, ap, sym, ◌∙◌, arith, ◌⊎◌, inl, inr}
+use Rattle.std.proofs.Common.{◌≡◌, ℕ, zero, suc, ◌+◌, List, [], ◌∷◌, refl, ap, sym, ◌∙◌, arith, ◌⊎◌, inl, inr}
 use Rattle.std.specs.Prelude.{Option, Some, None, IsSome, slice_get, Contains}
 use Rattle.std.proofs.lemmas.Bool.{false≢true, cases_eq, eq-eqb, ne_eqb}
 use Rattle.std.proofs.lemmas.Option.{none-some, same_Some, slice_get_within, slice_get-get_or, get_or_from_slice_get}
+use Rattle.hold_base.proofs.Options.{IsSome-never}
 use Rattle.hold_plain.specs.Keys.{place_from, place_of}
 
 -- a place counted from some start is that of the key in the list
@@ -50,18 +51,10 @@ place_of-stands key place keys e =
 pub place_of-nowhere : (key place : ℕ) (keys : List (Option ℕ)) → place_of key keys ≡ None → slice_get keys place ≡ Some (Some key) → ⊥
 place_of-nowhere key place keys e at = place_from-none 0 key keys e place at
 
--- the place of a key is one of the list's
-pub place_of-within : (key place : ℕ) (keys : List (Option ℕ)) → place_of key keys ≡ Some place → place < length keys
-place_of-within key place keys e = slice_get_within keys place (Some key) (place_of-stands key place keys e)
-
-is_some_of : (o : Option ℕ) → (o ≡ None → ⊥) → IsSome o
-is_some_of None h = absurd (h refl)
-is_some_of (Some n) h = refl
-
 -- a key that stands in the list has a place
 pub place_of-contains : (key : ℕ) (keys : List (Option ℕ)) → Contains keys (Some key) → IsSome (place_of key keys)
 place_of-contains key keys h =
-    is_some_of (place_of key keys) (λ e. place_of-nowhere key h.0 keys e (slice_get-get_or keys h.0 (Some key) h.1 ∙ ap (λ (k : Option ℕ). Some k) h.2))
+    IsSome-never (place_of key keys) (λ e. place_of-nowhere key h.0 keys e (slice_get-get_or keys h.0 (Some key) h.1 ∙ ap (λ (k : Option ℕ). Some k) h.2))
 
 contains_at : (key place : ℕ) (keys : List (Option ℕ)) → slice_get keys place ≡ Some (Some key) → Contains keys (Some key)
 contains_at key place keys at = (place, slice_get_within keys place (Some key) at, get_or_from_slice_get keys place (Some key) (Some key) at)
@@ -73,6 +66,3 @@ contains-place_of key keys some = by_place (place_of key keys) refl some
     by_place : (found : Option ℕ) → place_of key keys ≡ found → IsSome found → Contains keys (Some key)
     by_place None e h = absurd (false≢true h)
     by_place (Some place) e h = contains_at key place keys (place_of-stands key place keys e)
-
-pub contains_iff_place_of : (key : ℕ) (keys : List (Option ℕ)) → Contains keys (Some key) ↔ IsSome (place_of key keys)
-contains_iff_place_of key keys = (place_of-contains key keys, contains-place_of key keys)

@@ -4,6 +4,7 @@ use Rattle.std.specs.Prelude.{Option, true, false, is_some, Some, None, slice_ge
 use Rattle.std.proofs.lemmas.Bool.{cases_eq, false≢true}
 use Rattle.std.proofs.lemmas.List.{get_or-set_same, get_or-set_other, get_or_read}
 use Rattle.std.proofs.lemmas.Option.{none-some, same_Some, slice_get_within, slice_get-get_or}
+use Rattle.hold_base.proofs.Options.{none-is_some}
 use Rattle.hold_plain.specs.Keys.{OneEach, place_of}
 use Rattle.hold_plain.proofs.PlaceLemmas.{place_of-stands, place_of-nowhere}
 
@@ -55,10 +56,6 @@ table-put keys n key table at below free h = record {
         let found = h.only other place (sym (get_or-set_other table key other (Some n) None differs) ∙ e) in
         (omega (arith, found.0), found.1)
 
-free_from : (had : Option ℕ) → is_some had ≡ false → had ≡ None
-free_from None lacks = refl
-free_from (Some place) lacks = absurd (false≢true (sym lacks))
-
 -- each key is below the bound, as long as the table is
 abbrev pub AreBelow : ℕ → List (Option ℕ) → Type 0
 AreBelow bound keys = (place key : ℕ) → slice_get keys place ≡ Some (Some key) → key < bound
@@ -69,7 +66,7 @@ pub table-put_free : (bound n key : ℕ) (had : Option ℕ) (keys table : List (
 table-put_free bound n key had keys table below len within is read lacks h =
     let at : slice_get keys n ≡ Some (Some key) = read_at keys n (Some key) within is in
     let key_within : key < length table = omega (arith, below n key at, len) in
-    table-put keys n key table at key_within (sym (get_or_read table key had key_within read None) ∙ free_from had lacks) h
+    table-put keys n key table at key_within (sym (get_or_read table key had key_within read None) ∙ none-is_some had lacks) h
 
 -- a key that has a place already, as was read, stands at two
 pub table-twice : (bound n key : ℕ) (had : Option ℕ) (keys table : List (Option ℕ)) → AreBelow bound keys → length table ≡ bound → n < length keys → get_or keys n None ≡ Some key →

@@ -1,7 +1,8 @@
 -- The pin that an arc leads from has a lower rank than the pin that it ends at.
 use Rattle.std.proofs.Common.{◌≡◌, ℕ, ◌+◌, ◌*◌, ◌^◌, ◌<◌, ◌≤◌, refl, ap, arith, ◌⊎◌, inl, inr}
-use Rattle.std.specs.Prelude.{Some, None, Bool, true, false, if◌then◌else◌}
+use Rattle.std.specs.Prelude.{Some}
 use Rattle.std.proofs.lemmas.Option.{same_Some}
+use Rattle.hold_base.proofs.Bools.{cond-Some}
 use Rattle.hold_netlist.specs.declared.inst.Source.{Source}
 use Rattle.hold_netlist.specs.declared.inst.Source.TheVariants.{Net, Zero, One, Empty}
 use Rattle.hold_plain.specs.declared.pin_use.PinUse.{PinUse}
@@ -9,7 +10,7 @@ use Rattle.hold_plain.specs.declared.pin_use.PinRole.{PinRole}
 use Rattle.hold_plain.specs.declared.pin_use.PinRole.TheVariants.{Input, Output, Clock, Data, Launch, InPort, OutPort, Stray}
 use Rattle.hold_plain.specs.PinUses.{is_tied}
 use Rattle.hold_plain.specs.Keys.{net_of, driven_as, driven, fed_as, fed}
-use Rattle.hold_plain.specs.Problem.{rank_as, rank_of}
+use Rattle.hold_plain.specs.inner.Problem.{rank_as, rank_of}
 
 -- the roles of pins that read the net that they are tied to
 abbrev pub IsReader : PinRole → Type 0
@@ -72,13 +73,9 @@ wire_rises from to net drives reads forward few = by_case (driver_cases from.rol
         omega arith
     by_case (inr is) = let above = reader_positive to.role to.inst reads in omega arith
 
-if_some : (b : Bool) (inst key : ℕ) → (if b then Some inst else None) ≡ Some key → inst ≡ key
-if_some true inst key e = same_Some inst key e
-if_some false inst key e = cc
-
 -- what is fed is an input of its instance
 pub fed_cases : (role : PinRole) (source : Source) (inst key : ℕ) → fed_as role source inst ≡ Some key → (role ≡ Input) × (inst ≡ key)
-fed_cases Input source inst key e = (refl, if_some (is_tied source) inst key e)
+fed_cases Input source inst key e = (refl, same_Some inst key (cond-Some (is_tied source) (Some inst) key e))
 fed_cases Output source inst key e = cc
 fed_cases Clock source inst key e = cc
 fed_cases Data source inst key e = cc

@@ -1,7 +1,8 @@
 -- What a table of the registers' names, made one instance after another, says of a name.
 use Rattle.std.proofs.Common.{◌≡◌, ℕ, List, [], ◌∷◌, Bool, true, false, cond, Option, Some, None, refl, sym, ap, ◌∙◌, is_some, length, drop, ◌≤◌}
 use Rattle.std.specs.Prelude.{bytes_eq, ◌||◌, ◌&&◌}
-use Rattle.std.proofs.lemmas.Bool.{false≢true}
+use Rattle.std.proofs.lemmas.Bool.{false≢true, and_parts}
+use Rattle.std.proofs.Math.Bool.{or-false, or_assoc}
 use Rattle.std.specs.List.{list_any}
 use Rattle.std.specs.Cmp.Derive.{both_true}
 use Rattle.std.proofs.lemmas.List.{drop_all}
@@ -15,7 +16,7 @@ use Rattle.hold_plain.specs.declared.cell.Role.TheVariants.{Comb, Register}
 use Rattle.hold_plain.specs.declared.timing.Timing.{Timing}
 use Rattle.hold_plain.specs.Cells.{cell_named, or_else}
 use Rattle.hold_plain.specs.Served.{IsRegister}
-use Rattle.hold_plain.specs.Tables.{is_register, is_register_cell, is_register_role, TellsRegisters}
+use Rattle.hold_plain.specs.inner.Tables.{is_register, is_register_cell, is_register_role, TellsRegisters}
 use Rattle.hold_plain.proofs.TableLemmas.{with_name, number_of-with_name}
 
 -- the table once each of these instances that is a register put its name in
@@ -29,10 +30,6 @@ is_named timing name i = is_register timing i && bytes_eq name i.name
 
 -- ---- what the table has
 
-or-false : (b : Bool) → b ≡ (b || false)
-or-false true = refl
-or-false false = refl
-
 with_register : (timing : Timing) (name : List ℕ) (table : List (List ℕ × ℕ)) (i : Inst) →
     is_some (number_of name (cond (is_register timing i) (with_name i.name 0 table) table)) ≡ (is_some (number_of name table) || (is_register timing i && bytes_eq name i.name))
 with_register timing name table i = by (is_register timing i)
@@ -44,19 +41,15 @@ with_register timing name table i = by (is_register timing i)
 
     by : (b : Bool) → is_some (number_of name (cond b (with_name i.name 0 table) table)) ≡ (is_some (number_of name table) || (b && bytes_eq name i.name))
     by true = ap is_some (number_of-with_name name i.name 0 table) ∙ either (number_of name table) (bytes_eq name i.name)
-    by false = or-false (is_some (number_of name table))
-
-or-or : (a b c : Bool) → ((a || b) || c) ≡ (a || (b || c))
-or-or true b c = refl
-or-or false b c = refl
+    by false = sym (or-false (is_some (number_of name table)))
 
 in_table : (timing : Timing) (name : List ℕ) (table : List (List ℕ × ℕ)) (insts : List Inst) →
     is_some (number_of name (with_registers timing table insts)) ≡ (is_some (number_of name table) || list_any (is_named timing name) insts)
-in_table timing name table [] = or-false (is_some (number_of name table))
+in_table timing name table [] = sym (or-false (is_some (number_of name table)))
 in_table timing name table (i ∷ is) =
     in_table timing name (cond (is_register timing i) (with_name i.name 0 table) table) is
     ∙ ap (λ (b : Bool). b || list_any (is_named timing name) is) (with_register timing name table i)
-    ∙ or-or (is_some (number_of name table)) (is_register timing i && bytes_eq name i.name) (list_any (is_named timing name) is)
+    ∙ or_assoc (is_some (number_of name table)) (is_register timing i && bytes_eq name i.name) (list_any (is_named timing name) is)
 
 -- ---- what it means
 
@@ -71,14 +64,10 @@ cell_is (Some cell) is = (cell, refl, role_is cell.role is)
 is_cell : (o : Option Cell) (cell : Cell) → o ≡ Some cell → cell.role ≡ Register → is_register_cell o ≡ true
 is_cell o cell is role = ap is_register_cell is ∙ ap is_register_role role
 
-and_both : (a b : Bool) → (a && b) ≡ true → (a ≡ true) × (b ≡ true)
-and_both true b is = (refl, is)
-and_both false b is = absurd (false≢true is)
-
 register_is : (timing : Timing) (insts : List Inst) (name : List ℕ) → list_any (is_named timing name) insts ≡ true → IsRegister timing insts name
 register_is timing insts name is =
     let found = Any-from_list_any (is_named timing name) insts is in
-    let both = and_both (is_register timing found.1) (bytes_eq name found.1.name) found.4 in
+    let both = and_parts (is_register timing found.1) (bytes_eq name found.1.name) found.4 in
     let cell = cell_is (cell_named found.1.kind timing.cells) both.0 in
     record {
       inst = found.1;

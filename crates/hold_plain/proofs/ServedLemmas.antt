@@ -9,9 +9,11 @@ use Rattle.hold_netlist.specs.declared.inst.Source.TheVariants.{Net, Zero, One, 
 use Rattle.hold_plain.specs.declared.pin_use.PinUse.{PinUse}
 use Rattle.hold_plain.specs.declared.pin_use.PinRole.{PinRole}
 use Rattle.hold_plain.specs.declared.pin_use.PinRole.TheVariants.{Input, Output, Clock, Data, Launch, InPort, OutPort, Stray}
-use Rattle.hold_plain.specs.Keys.{net_of, driven, driven_as, fed, OneEach, HoldsPlaces, ArePlaces, place_of}
-use Rattle.hold_plain.specs.Served.{IsForward, HasDelay, HasDelayAs, IsServedUses, IsUseWithin}
-use Rattle.hold_plain.specs.Tested.{input_net_as, IsAfterDriver, HasDelayIn, HasDelayInAs, IsSoundList, IsInOrder}
+use Rattle.hold_plain.specs.Keys.{net_of, driven, driven_as, fed, OneEach, place_of}
+use Rattle.hold_plain.specs.inner.Keys.{HoldsPlaces, ArePlaces}
+use Rattle.hold_plain.specs.Served.{IsForward, HasDelay, HasDelayAs, IsServedUses}
+use Rattle.hold_plain.specs.inner.Served.{IsUseWithin}
+use Rattle.hold_plain.specs.inner.Tested.{input_net_as, IsAfterDriver, HasDelayIn, HasDelayInAs, IsSoundList, IsInOrder}
 use Rattle.hold_plain.proofs.PlaceLemmas.{place_of-stands, place_of-nowhere, place_of-contains, contains-place_of}
 use Rattle.hold_plain.proofs.PlaceTables.{AreBelow}
 

@@ -3,12 +3,14 @@ use Rattle.std.proofs.Common.{arith}
 use Rattle.std.specs.Prelude.{Option, Some, None}
 use Rattle.std.proofs.lemmas.Int.{ints}
 use Rattle.hold_base.specs.declared.time.Interval.{Interval}
-use Rattle.hold_graph.specs.Problem.{IsSpan, IsWithin, time_limit, launch_limit}
+use Rattle.hold_graph.specs.Problem.{IsSpan, IsWithin}
+use Rattle.hold_base.specs.Limits.{time_limit, launch_limit}
 use Rattle.hold_plain.specs.declared.cell.Check.{Check}
 use Rattle.hold_plain.specs.declared.pin_use.PinUse.{PinUse}
 use Rattle.hold_plain.specs.declared.pin_use.PinRole.{PinRole}
 use Rattle.hold_plain.specs.declared.pin_use.PinRole.TheVariants.{Input, Output, Clock, Data, Launch, InPort, OutPort, Stray}
-use Rattle.hold_plain.specs.Limits.{IsTimed, IfKnown, IsCheckInLimit}
+use Rattle.hold_plain.specs.inner.Limits.{IsTimed}
+use Rattle.hold_plain.specs.Limits.{IfKnown, IsCheckInLimit}
 use Rattle.hold_plain.specs.Problem.{zero_span, known_or, step_as, step_span, sum_of, clock_span, launch_span, no_check, setup_of, hold_of}
 
 zero_within : IsSpan time_limit zero_span

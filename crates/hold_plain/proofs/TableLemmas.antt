@@ -10,7 +10,7 @@ use Rattle.hold_netlist.specs.NameTable.{number_of}
 use Rattle.hold_plain.specs.declared.cell.Cell.{Cell}
 use Rattle.hold_plain.specs.declared.timing.Clock.{Clock as ClockEntry}
 use Rattle.hold_plain.specs.Cells.{cell_named, arrival_in, or_else}
-use Rattle.hold_plain.specs.Tables.{first_at, cell_names, clock_names, TellsPlaces}
+use Rattle.hold_plain.specs.inner.Tables.{first_at, cell_names, clock_names, TellsPlaces}
 
 -- the table once a name that it lacks got its number
 abbrev pub with_name : List ℕ → ℕ → List (List ℕ × ℕ) → List (List ℕ × ℕ)

@@ -1,5 +1,5 @@
 -- The nets and instances that the list of pins names are nets and instances of the netlist.
-use Rattle.std.proofs.Common.{◌≡◌, ℕ, ◌+◌, ◌<◌, ◌≤◌, List, [], ◌∷◌, map, length, take, Bool, true, false, cond, Option, Some, None, refl, sym, ap, arith, subst, ltb}
+use Rattle.std.proofs.Common.{◌≡◌, ℕ, ◌+◌, ◌<◌, ◌≤◌, List, [], ◌∷◌, map, length, take, Option, Some, None, refl, ap, arith, subst, ltb}
 use Rattle.std.specs.Prelude.{All}
 use Rattle.std.specs.List.{AllByRecursion}
 use Rattle.std.proofs.lemmas.Bool.{ltb-false}
@@ -7,6 +7,7 @@ use Rattle.std.proofs.lemmas.List.{length-map, length-take}
 use Rattle.std.proofs.lemmas.List.Elements.{All-nil, All-cons, All-head, All-tail, All-append}
 use Rattle.std.proofs.lemmas.List.Sums.{sum_by-cons}
 use Rattle.std.proofs.lemmas.Option.{same_Some, none-some}
+use Rattle.hold_base.proofs.Bools.{cond-None, cond-Some}
 use Rattle.hold_base.specs.declared.time.Interval.{Interval}
 use Rattle.hold_base.specs.declared.stop.What.TheVariants.{Bits}
 use Rattle.hold_netlist.specs.declared.inst.Source.{Source}
@@ -30,7 +31,8 @@ use Rattle.hold_plain.specs.declared.pin_use.PinRole.TheVariants.{Input, Output,
 use Rattle.hold_plain.specs.Cells.{cell_named, clock_arrival}
 use Rattle.hold_plain.specs.PinUses.{fed_name, port_role, use_of, stray_use, cell_uses, inst_uses, port_use, insts_uses, ports_uses, uses_of}
 use Rattle.hold_plain.specs.Keys.{net_of, fed_as}
-use Rattle.hold_plain.specs.Served.{IsScalar, IsUseWithin}
+use Rattle.hold_plain.specs.Served.{IsScalar}
+use Rattle.hold_plain.specs.inner.Served.{IsUseWithin}
 
 -- ---- counts
 
@@ -58,13 +60,8 @@ wires_within : (wires : List Wire) → length wires ≤ bits_of wires
 wires_within [] = omega arith
 wires_within (w ∷ ws) = omega (arith, sum_by-cons width_of w ws, width_of_range-least w.range, wires_within ws)
 
--- where a test has no outcome, it fails, and so does what comes after it
-not_taken : {A : Type 0} (b : Bool) (a : A) (rest : Option A) → cond b (Some a) rest ≡ None → (b ≡ false) × (rest ≡ None)
-not_taken true a rest is = absurd (none-some a (sym is))
-not_taken false a rest is = (refl, is)
-
 bits_few : (d : Design) → IsValid d → bits_of d.wires ≤ 33554432
-bits_few d valid = ltb-false 33554432 (bits_of d.wires) (not_taken (ltb 33554432 (bits_of d.wires)) Bits _ valid.counts).0
+bits_few d valid = ltb-false 33554432 (bits_of d.wires) (cond-None (ltb 33554432 (bits_of d.wires)) Bits _ valid.counts).0
 
 -- a netlist has few ports
 pub ports_few : (d : Design) → IsValid d → length d.ports ≤ 33554432
@@ -78,12 +75,8 @@ net_of-within nets Zero n inside is = absurd (none-some n is)
 net_of-within nets One n inside is = absurd (none-some n is)
 net_of-within nets Empty n inside is = absurd (none-some n is)
 
-input-inst : (b : Bool) (inst i : ℕ) → cond b (Some inst) None ≡ Some i → inst ≡ i
-input-inst true inst i is = same_Some inst i is
-input-inst false inst i is = absurd (none-some i is)
-
 fed_as-inst : (role : PinRole) (source : Source) (inst i : ℕ) → fed_as role source inst ≡ Some i → inst ≡ i
-fed_as-inst Input source inst i is = input-inst _ inst i is
+fed_as-inst Input source inst i is = same_Some inst i (cond-Some _ (Some inst) i is)
 fed_as-inst Output source inst i is = absurd (none-some i is)
 fed_as-inst Clock source inst i is = absurd (none-some i is)
 fed_as-inst Data source inst i is = absurd (none-some i is)

@@ -1,13 +1,15 @@
 -- The delays, checks and arrivals of the list of pins are within the limits, where those of the cells and of the clock are.
-use Rattle.std.proofs.Common.{ℕ, ◌+◌, List, [], ◌∷◌, map, Bool, true, false, cond, Option, Some, None}
+use Rattle.std.proofs.Common.{ℕ, ◌+◌, List, [], ◌∷◌, Bool, true, false, cond, Option, Some, None}
 use Rattle.std.specs.Prelude.{All, ◌&&◌, bytes_eq}
 use Rattle.std.proofs.lemmas.List.Elements.{All-nil, All-cons, All-head, All-tail, All-append}
+use Rattle.hold_base.proofs.Lists.{All-map}
 use Rattle.hold_base.specs.declared.time.Interval.{Interval}
 use Rattle.hold_netlist.specs.declared.inst.Pin.{Pin}
 use Rattle.hold_netlist.specs.declared.inst.Inst.{Inst}
 use Rattle.hold_netlist.specs.declared.wire.Port.{Port}
 use Rattle.hold_netlist.specs.Design.{Design}
-use Rattle.hold_graph.specs.Problem.{IsSpan, time_limit}
+use Rattle.hold_graph.specs.Problem.{IsSpan}
+use Rattle.hold_base.specs.Limits.{time_limit}
 use Rattle.hold_plain.specs.declared.cell.Cell.{Cell}
 use Rattle.hold_plain.specs.declared.cell.CellArc.{CellArc}
 use Rattle.hold_plain.specs.declared.cell.CellCheck.{CellCheck}
@@ -17,7 +19,8 @@ use Rattle.hold_plain.specs.declared.pin_use.PinRole.{PinRole}
 use Rattle.hold_plain.specs.declared.pin_use.PinRole.TheVariants.{Input, Output, Clock, Data, Launch, InPort, OutPort, Stray}
 use Rattle.hold_plain.specs.Cells.{cell_named, arc_span, check_of, arrival_in, or_else, clock_arrival, role_in}
 use Rattle.hold_plain.specs.PinUses.{fed_name, arc_from, delay_to, check_at, use_of, stray_use, cell_uses, inst_uses, port_use, insts_uses, ports_uses, uses_of}
-use Rattle.hold_plain.specs.Limits.{IfKnown, IsCheckInLimit, IsTimed, KeepsCellLimits, KeepsLimits}
+use Rattle.hold_plain.specs.Limits.{IfKnown, IsCheckInLimit, KeepsCellLimits, KeepsLimits}
+use Rattle.hold_plain.specs.inner.Limits.{IsTimed}
 
 -- what holds of the one where a test says yes, and of the other where it says no
 known_if : {A : Type 0} (P : A → Type 0) (b : Bool) (a : A) (o : Option A) → P a → IfKnown P o → IfKnown P (cond b (Some a) o)
@@ -88,16 +91,11 @@ use_of-timed cell arrival inst fed pin keeps known = record {
   arrival = known;
 }
 
--- what holds of each item's image holds of the images
-all_map : {A B : Type 0} (P : B → Type 0) (f : A → B) (xs : List A) → ((x : A) → P (f x)) → All P (map f xs)
-all_map P f [] each = All-nil P
-all_map P f (x ∷ xs) each = All-cons P (f x) (map f xs) (each x) (all_map P f xs each)
-
 cell_uses-timed : (cell : Option Cell) (arrival : Option Interval) (inst : ℕ) (pins : List Pin) → IfKnown KeepsCellLimits cell → IfKnown (IsSpan time_limit) arrival
     → All IsTimed (cell_uses cell arrival inst pins)
-cell_uses-timed None arrival inst pins keeps known = all_map IsTimed (stray_use inst) pins (λ pin. record { delay = tt; check = tt; arrival = tt })
+cell_uses-timed None arrival inst pins keeps known = All-map IsTimed (stray_use inst) pins (λ pin. record { delay = tt; check = tt; arrival = tt })
 cell_uses-timed (Some cell) arrival inst pins keeps known =
-    all_map IsTimed (use_of cell arrival inst (fed_name cell pins)) pins (λ pin. use_of-timed cell arrival inst (fed_name cell pins) pin keeps known)
+    All-map IsTimed (use_of cell arrival inst (fed_name cell pins)) pins (λ pin. use_of-timed cell arrival inst (fed_name cell pins) pin keeps known)
 
 inst_uses-timed : (timing : Timing) (inst : ℕ) (i : Inst) → KeepsLimits timing → All IsTimed (inst_uses timing inst i)
 inst_uses-timed timing inst i keeps =

@@ -10,14 +10,16 @@ use Rattle.hold_graph.specs.declared.graph.Parts.{Parts}
 use Rattle.hold_graph.specs.declared.problem.Spans.{Spans}
 use Rattle.hold_graph.specs.declared.problem.Problem.{Problem}
 use Rattle.hold_graph.specs.Graph.{AreBelow, EndsOnce, IsNumbered, Rises}
-use Rattle.hold_graph.specs.Problem.{IsSpan, IsWithin, IsValid, IsValidCorner, time_limit, launch_limit}
+use Rattle.hold_graph.specs.Problem.{IsSpan, IsWithin, IsValid, IsValidCorner}
+use Rattle.hold_base.specs.Limits.{time_limit, launch_limit}
 use Rattle.hold_plain.specs.declared.pin_use.PinUse.{PinUse}
 use Rattle.hold_plain.specs.declared.pin_use.PinRole.{PinRole}
 use Rattle.hold_plain.specs.declared.pin_use.PinRole.TheVariants.{Output}
 use Rattle.hold_plain.specs.Keys.{net_of, driven, fed, place_of}
 use Rattle.hold_plain.specs.Served.{IsServedUses}
-use Rattle.hold_plain.specs.Limits.{IsTimed}
-use Rattle.hold_plain.specs.Problem.{driver_of, arcs_from, step_span, is_clock_pin, is_data, is_launch, pins_with, clock_span, launch_span, setup_of, hold_of, parts_of, spans_of, problem_with, rank_of}
+use Rattle.hold_plain.specs.inner.Limits.{IsTimed}
+use Rattle.hold_plain.specs.Problem.{driver_of, arcs_from, step_span, is_clock_pin, is_data, is_launch, pins_with, clock_span, launch_span, setup_of, hold_of, parts_of, spans_of, problem_with}
+use Rattle.hold_plain.specs.inner.Problem.{rank_of}
 use Rattle.hold_plain.proofs.PlaceLemmas.{place_of-stands}
 use Rattle.hold_plain.proofs.RankFacts.{IsReader, same_net, wire_rises, cell_rises}
 use Rattle.hold_plain.proofs.ArcFacts.{IsArcInto, all_arcs, all_steps, arcs_from_once, length-arcs_from, length-steps_from}

@@ -7,10 +7,7 @@
 -- is_key key k: whether the key stands there.
 -- place_of key keys: the first place at which the key stands, none where it stands nowhere. place_from place key keys: the same
 --   where the first of the keys has that place.
--- HoldsPlaces bound keys table: each key is below the bound, and the table has, by key, the first place at which it stands.
--- ArePlaces nets insts uses drivers feeders: by net the place of the pin that drives it, and by instance that of the connected input
---   that leads into it. Nets and instances are below these numbers.
-use Rattle.std.specs.Prelude.{◌≡◌, ℕ, ◌+◌, ◌==◌, List, [], ◌∷◌, map, Option, Some, None, slice_get, slice_index_or, length, ◌<◌, Bool, false, if◌then◌else◌}
+use Rattle.std.specs.Prelude.{◌≡◌, ℕ, ◌+◌, ◌==◌, List, [], ◌∷◌, Option, Some, None, slice_get, Bool, false, if◌then◌else◌}
 use Rattle.hold_netlist.specs.declared.inst.Source.{Source}
 use Rattle.hold_netlist.specs.declared.inst.Source.TheVariants.{Net, Zero, One, Empty}
 use Rattle.hold_plain.specs.declared.pin_use.PinUse.{PinUse}
@@ -64,12 +61,3 @@ place_from place key (k ∷ keys) = if is_key key k then Some place else place_f
 
 abbrev pub place_of : ℕ → List (Option ℕ) → Option ℕ
 place_of key keys = place_from 0 key keys
-
-pub record HoldsPlaces (bound : ℕ) (keys table : List (Option ℕ)) : Type 0 where
-  pub below : (place key : ℕ) → slice_get keys place ≡ Some (Some key) → key < bound
-  pub each : length table ≡ bound
-  pub places : (key : ℕ) → slice_index_or table key None ≡ place_of key keys
-
-pub record ArePlaces (nets insts : ℕ) (uses : List PinUse) (drivers feeders : List (Option ℕ)) : Type 0 where
-  pub drives : HoldsPlaces nets (map driven uses) drivers
-  pub feeds : HoldsPlaces insts (map fed uses) feeders

@@ -4,7 +4,4 @@ pub mod Keys
 pub mod Served
 pub mod Problem
 pub mod Limits
-pub mod RegisterPins
-pub mod Tested
-pub mod Tables
-pub mod Known
+pub mod inner

@@ -1,14 +1,13 @@
 -- IfKnown P a: what a holds, if anything, has the property.
 -- IsCheckInLimit check: setup and hold are within the limit of 10 us.
--- IsTimed u: the delay, the check and the arrival of a pin, where it has them, are within the limit of 10 us, and spans have their ends in order.
 -- KeepsCellLimits cell: the same of each arc and each check of a cell.
 -- KeepsLimits timing: the same of all that is known of time; the period is from 1 fs to 10 us.
 use Rattle.std.specs.Prelude.{All, Option, Some, None, pos, ◌≤ℤ◌}
-use Rattle.hold_graph.specs.Problem.{IsSpan, IsWithin, time_limit}
+use Rattle.hold_graph.specs.Problem.{IsSpan, IsWithin}
+use Rattle.hold_base.specs.Limits.{time_limit}
 use Rattle.hold_plain.specs.declared.cell.Cell.{Cell}
 use Rattle.hold_plain.specs.declared.cell.Check.{Check}
 use Rattle.hold_plain.specs.declared.timing.Timing.{Timing}
-use Rattle.hold_plain.specs.declared.pin_use.PinUse.{PinUse}
 
 pub record IsCheckInLimit (check : Check) : Type 0 where
   pub setup : IsWithin time_limit check.setup
@@ -17,11 +16,6 @@ pub record IsCheckInLimit (check : Check) : Type 0 where
 abbrev pub IfKnown : {A : Type 0} → (A → Type 0) → Option A → Type 0
 IfKnown P None = Unit {0}
 IfKnown P (Some a) = P a
-
-pub record IsTimed (u : PinUse) : Type 0 where
-  pub delay : IfKnown (IsSpan time_limit) u.delay
-  pub check : IfKnown IsCheckInLimit u.check
-  pub arrival : IfKnown (IsSpan time_limit) u.arrival
 
 pub record KeepsCellLimits (cell : Cell) : Type 0 where
   pub arcs : All (λ arc. IsSpan time_limit arc.span) cell.arcs

@@ -18,8 +18,7 @@
 -- parts_of uses, spans_of uses: the graph of the pins, and its times in the one corner. problem_of timing d: the timing problem of a
 --   netlist; problem_with period uses: the same by its pins. It has no kind of buffer, and no buffer may be put. These mean something
 --   of a netlist that is served.
--- rank_of u: a number by which each arc of a served netlist runs upwards. rank_as role inst: the same of a pin of that role.
-use Rattle.std.specs.Prelude.{ℕ, ◌+◌, ◌*◌, ◌^◌, List, [], ◌∷◌, ◌++◌, map, length, Option, Some, None, Bool, true, false, if◌then◌else◌, ℤ, pos, ◌+ℤ◌}
+use Rattle.std.specs.Prelude.{ℕ, ◌+◌, List, [], ◌∷◌, ◌++◌, map, length, Option, Some, None, Bool, true, false, if◌then◌else◌, ℤ, pos, ◌+ℤ◌}
 use Rattle.hold_base.specs.declared.number.PinNo.{PinNo}
 use Rattle.hold_base.specs.declared.time.Interval.{Interval}
 use Rattle.hold_netlist.specs.Design.{Design}
@@ -171,16 +170,3 @@ problem_with period uses = record { graph = parts_of uses; period = period; max_
 
 abbrev pub problem_of : Timing → Design → Problem
 problem_of timing d = problem_with timing.period (uses_of timing d)
-
-abbrev pub rank_as : PinRole → ℕ → ℕ
-rank_as Input inst = 2 * inst + 1
-rank_as Output inst = 2 * inst + 2
-rank_as Clock inst = 2 ^ 20
-rank_as Data inst = 2 ^ 20
-rank_as OutPort inst = 2 ^ 20
-rank_as Launch inst = 0
-rank_as InPort inst = 0
-rank_as Stray inst = 0
-
-abbrev pub rank_of : PinUse → ℕ
-rank_of u = rank_as u.role u.inst

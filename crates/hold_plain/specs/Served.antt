@@ -9,18 +9,17 @@
 -- IsServedInst timing i: the instance's cell is known, and the clock arrives at it where it is a register.
 -- IsRegister timing insts name: some register instance has that name.
 -- IsScalar d: each wire is scalar, and nothing is assigned. So the netlist has as many net bits as wires.
--- IsUseWithin nets insts u: the net that the pin is tied to is one of so many, and so is the instance that it leads into; no
---   instance number passes their count.
 -- IsServedUses uses: pins of a netlist that has a timing problem of the plain form: there are at most 2^20, each is known, no output
 --   is tied to a constant, no net has two drivers, at most one connected input leads into each combinational instance, where one
 --   drives another it stands before it, and each delay and check that a pin asks for is known, whether or not a path uses it.
 -- IsServed timing d: the netlist is served: its pins are such, there are at most 2^21 wires and 2^18 instances, each instance's
 --   cell is known and each register's arrival, and each clock entry names a register.
-use Rattle.std.specs.Prelude.{◌≡◌, ◌≢◌, ℕ, ◌<◌, ◌≤◌, ◌^◌, List, [], map, length, Option, Some, None, IsSome, slice_get, Contains, All}
+use Rattle.std.specs.Prelude.{◌≡◌, ◌≢◌, ℕ, ◌<◌, ◌≤◌, List, [], map, length, Option, Some, None, IsSome, slice_get, Contains, All}
 use Rattle.hold_netlist.specs.declared.inst.Source.{Source}
 use Rattle.hold_netlist.specs.declared.inst.Source.TheVariants.{Net, Zero, One, Empty}
 use Rattle.hold_netlist.specs.declared.inst.Inst.{Inst}
 use Rattle.hold_netlist.specs.Design.{Design}
+use Rattle.hold_base.specs.Limits.{bound_bits_limit, bound_insts_limit, bound_pins_limit}
 use Rattle.hold_plain.specs.declared.cell.Cell.{Cell}
 use Rattle.hold_plain.specs.declared.cell.Role.{Role}
 use Rattle.hold_plain.specs.declared.cell.Role.TheVariants.{Comb, Register}
@@ -30,7 +29,7 @@ use Rattle.hold_plain.specs.declared.pin_use.PinRole.{PinRole}
 use Rattle.hold_plain.specs.declared.pin_use.PinRole.TheVariants.{Input, Output, Clock, Data, Launch, InPort, OutPort, Stray}
 use Rattle.hold_plain.specs.Cells.{cell_named, clock_arrival}
 use Rattle.hold_plain.specs.PinUses.{uses_of}
-use Rattle.hold_plain.specs.Keys.{net_of, driven, fed, OneEach}
+use Rattle.hold_plain.specs.Keys.{driven, fed, OneEach}
 
 abbrev pub IsNoConstant : Source → Type 0
 IsNoConstant (Net n) = Unit {0}
@@ -101,7 +100,7 @@ pub record IsRegister (timing : Timing) (insts : List Inst) (name : List ℕ) : 
   pub role : cell.role ≡ Register
 
 pub record IsServedUses (uses : List PinUse) : Type 0 where
-  pub pins : length uses ≤ 2 ^ 20
+  pub pins : length uses ≤ bound_pins_limit
   pub known : All (λ u. u.role ≢ Stray) uses
   pub outputs : All HasNoConstant uses
   pub drivers : OneEach (map driven uses)
@@ -111,8 +110,8 @@ pub record IsServedUses (uses : List PinUse) : Type 0 where
   pub checks : All HasCheck uses
 
 pub record IsServed (timing : Timing) (d : Design) : Type 0 where
-  pub bits : length d.wires ≤ 2 ^ 21
-  pub inst_count : length d.insts ≤ 2 ^ 18
+  pub bits : length d.wires ≤ bound_bits_limit
+  pub inst_count : length d.insts ≤ bound_insts_limit
   pub uses : IsServedUses (uses_of timing d)
   pub insts : All (IsServedInst timing) d.insts
   pub clocks : All (λ clock. IsRegister timing d.insts clock.inst) timing.clocks
@@ -120,8 +119,3 @@ pub record IsServed (timing : Timing) (d : Design) : Type 0 where
 pub record IsScalar (d : Design) : Type 0 where
   pub wires : All (λ w. w.range ≡ None) d.wires
   pub assigns : d.assigns ≡ []
-
-pub record IsUseWithin (nets insts : ℕ) (u : PinUse) : Type 0 where
-  pub net : (n : ℕ) → net_of u.source ≡ Some n → n < nets
-  pub inst : u.inst ≤ insts
-  pub feeds : (i : ℕ) → fed u ≡ Some i → i < insts

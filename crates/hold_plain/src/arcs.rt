@@ -1,7 +1,8 @@
 ghost use Rattle.std.specs.Prelude.{◌≡◌, ◌≤◌, ◌^◌, ℕ, List, Option, None, IfOk, length, map, slice_index_or};
 ghost use Rattle.std.specs.Option.{option_to_list};
 ghost use Rattle.hold_plain.specs.declared.pin_use.PinUse.{PinUse};
-ghost use Rattle.hold_plain.specs.Keys.{net_of, driven, fed, HoldsPlaces, ArePlaces};
+ghost use Rattle.hold_plain.specs.Keys.{net_of, driven, fed};
+ghost use Rattle.hold_plain.specs.inner.Keys.{HoldsPlaces, ArePlaces};
 ghost use Rattle.hold_plain.specs.Problem.{driver_of, arc_if, arcs_into, arcs_from, steps_from};
 
 use crate::pin_use::{PinRole, PinUse};

@@ -1,9 +1,11 @@
 ghost use Rattle.std.specs.Prelude.{◌≡◌, ◌↔◌, length, All, IfOk, IfSome, IfNone, IsTrue};
-ghost use Rattle.hold_plain.specs.Known.{IsKnown};
-ghost use Rattle.hold_plain.specs.Limits.{IsTimed, KeepsLimits};
+ghost use Rattle.hold_plain.specs.inner.Known.{IsKnown};
+ghost use Rattle.hold_plain.specs.inner.Limits.{IsTimed};
+ghost use Rattle.hold_plain.specs.Limits.{KeepsLimits};
 ghost use Rattle.hold_plain.specs.PinUses.{uses_of};
-ghost use Rattle.hold_plain.specs.Served.{IsScalar, IsUseWithin};
-ghost use Rattle.hold_plain.specs.Tables.{AreTables};
+ghost use Rattle.hold_plain.specs.Served.{IsScalar};
+ghost use Rattle.hold_plain.specs.inner.Served.{IsUseWithin};
+ghost use Rattle.hold_plain.specs.inner.Tables.{AreTables};
 
 use crate::pin_use::PinUse;
 use crate::served_insts::{serves_clocks, serves_insts};

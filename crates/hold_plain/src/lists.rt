@@ -1,8 +1,9 @@
 ghost use Rattle.std.specs.Prelude.{◌≡◌, ◌≤◌, ◌≤ℤ◌, ◌^◌, [], ◌∷◌, All, IfOk, length, pos};
 ghost use Rattle.hold_graph.specs.Graph.{EndsOnce};
-ghost use Rattle.hold_graph.specs.Problem.{IsValid, time_limit};
-ghost use Rattle.hold_plain.specs.Keys.{ArePlaces};
-ghost use Rattle.hold_plain.specs.Limits.{IsTimed};
+ghost use Rattle.hold_graph.specs.Problem.{IsValid};
+ghost use Rattle.hold_base.specs.Limits.{time_limit};
+ghost use Rattle.hold_plain.specs.inner.Keys.{ArePlaces};
+ghost use Rattle.hold_plain.specs.inner.Limits.{IsTimed};
 ghost use Rattle.hold_plain.specs.Problem.{parts_of, problem_with, spans_of};
 ghost use Rattle.hold_plain.specs.Served.{IsServedUses};
 

@@ -1,7 +1,7 @@
 ghost use Rattle.std.specs.Prelude.{◌≡◌, ◌≢◌, ◌↔◌, IsTrue, None, slice_index_or};
 ghost use Rattle.hold_plain.specs.declared.pin_use.PinRole.{PinRole};
 ghost use Rattle.hold_plain.specs.Served.{HasCheck, IsNoConstant, HasNoConstant};
-ghost use Rattle.hold_plain.specs.Tested.{HasDelayIn, IsAfterDriver, IsBefore, input_net};
+ghost use Rattle.hold_plain.specs.inner.Tested.{HasDelayIn, IsAfterDriver, IsBefore, input_net};
 
 use crate::keys::net_of;
 use crate::pin_use::{PinRole, PinUse};

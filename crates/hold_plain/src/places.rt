@@ -1,5 +1,6 @@
 ghost use Rattle.std.specs.Prelude.{◌≡◌, ℕ, ◌<◌, ◌^◌, Some, None, IfNone, IfOk, IfSome, length, slice_get, slice_index_or};
-ghost use Rattle.hold_plain.specs.Keys.{HoldsPlaces, OneEach};
+ghost use Rattle.hold_plain.specs.inner.Keys.{HoldsPlaces};
+ghost use Rattle.hold_plain.specs.Keys.{OneEach};
 
 use hold_base::Memory;
 use std::alloc::Global;

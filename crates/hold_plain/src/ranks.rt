@@ -1,5 +1,5 @@
 ghost use Rattle.std.specs.Prelude.{◌≡◌, ◌≤◌, ◌^◌, All, IfOk, map};
-ghost use Rattle.hold_plain.specs.Problem.{rank_of};
+ghost use Rattle.hold_plain.specs.inner.Problem.{rank_of};
 
 use crate::pin_use::{PinRole, PinUse};
 use hold_base::Memory;

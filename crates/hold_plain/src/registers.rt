@@ -1,6 +1,6 @@
 ghost use Rattle.std.specs.Prelude.{◌≡◌, ◌≤◌, ◌^◌, All, IfOk, length};
-ghost use Rattle.hold_plain.specs.Limits.{IsTimed};
-ghost use Rattle.hold_plain.specs.RegisterPins.{check_time, is_of};
+ghost use Rattle.hold_plain.specs.inner.Limits.{IsTimed};
+ghost use Rattle.hold_plain.specs.inner.RegisterPins.{check_time, is_of};
 ghost use Rattle.hold_plain.specs.Problem.{clock_span, is_clock_pin, is_data, is_launch, launch_span, pins_with, uses_with};
 
 use crate::pin_use::{PinRole, PinUse};

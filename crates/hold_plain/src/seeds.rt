@@ -1,8 +1,9 @@
 //! The seeds of tables, each of the names that its table is made of.
 ghost use Rattle.std.specs.Prelude.{◌≡◌};
 ghost use Rattle.std.specs.Hash.DefaultHasher as sip;
-ghost use Rattle.hold_netlist.specs.Seed.{start_of, with_texts};
-ghost use Rattle.hold_plain.specs.Tables.{cell_names, clock_names, inst_names};
+ghost use Rattle.hold_netlist.specs.Seed.{start_of};
+ghost use Rattle.hold_netlist.specs.inner.Seed.{with_texts};
+ghost use Rattle.hold_plain.specs.inner.Tables.{cell_names, clock_names, inst_names};
 
 use crate::cell::Cell;
 use crate::timing::Clock;

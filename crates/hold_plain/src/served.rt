@@ -1,18 +1,17 @@
 ghost use Rattle.std.specs.Prelude.{◌≡◌, ◌≢◌, ◌↔◌, ◌<◌, ◌^◌, All, IfNone, IfOk, IfSome, IsTrue, length, map};
 ghost use Rattle.hold_plain.specs.declared.pin_use.PinRole.{PinRole};
-ghost use Rattle.hold_plain.specs.Keys.{ArePlaces, OneEach, driven, fed};
-ghost use Rattle.hold_plain.specs.Served.{HasCheck, IsServedUses, HasNoConstant, IsUseWithin};
-ghost use Rattle.hold_plain.specs.Tested.{HasDelayIn, IsAfterDriver, IsInOrder, IsSoundList};
+ghost use Rattle.hold_plain.specs.inner.Keys.{ArePlaces};
+ghost use Rattle.hold_plain.specs.Keys.{OneEach, driven, fed};
+ghost use Rattle.hold_plain.specs.Served.{HasCheck, IsServedUses, HasNoConstant};
+ghost use Rattle.hold_plain.specs.inner.Served.{IsUseWithin};
+ghost use Rattle.hold_plain.specs.inner.Tested.{HasDelayIn, IsAfterDriver, IsInOrder, IsSoundList};
 
 use crate::keys::{insts_fed, nets_driven};
 use crate::pin_tests::{has_check, has_delay, has_no_constant, is_after_driver, is_known};
 use crate::pin_use::PinUse;
 use crate::places::places_of;
-use hold_base::Memory;
+use hold_base::{Memory, limits};
 use std::alloc::Global;
-
-/// Most pins that a netlist may have.
-const MOST_PINS: usize = 1 << 20;
 
 /// The places of the pins that drive each net, and of the connected input of each instance.
 #[derive(Drop)]
@@ -60,7 +59,10 @@ fn have_delays(uses: &[PinUse], feeders: &[Option<u32>]) -> bool
 fn is_sound(uses: &[PinUse]) -> bool
     ensures { IsTrue result ↔ IsSoundList uses.now }
 {
-    uses.len() <= MOST_PINS && are_known(uses) && have_no_constants(uses) && have_checks(uses)
+    uses.len() as u64 <= limits::BOUND_PINS
+        && are_known(uses)
+        && have_no_constants(uses)
+        && have_checks(uses)
 }
 
 /// The tables of places, None exactly where two pins drive one net, or two lead into one instance.

@@ -1,6 +1,6 @@
 ghost use Rattle.std.specs.Prelude.{◌≡◌, ◌↔◌, All, IfOk, IsTrue};
 ghost use Rattle.hold_plain.specs.Served.{IsRegister, IsServedInst};
-ghost use Rattle.hold_plain.specs.Tables.{is_register, AreTables, TellsRegisters};
+ghost use Rattle.hold_plain.specs.inner.Tables.{is_register, AreTables, TellsRegisters};
 
 use crate::cell::Role;
 use crate::seeds::insts_seed;

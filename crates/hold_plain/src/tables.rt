@@ -2,7 +2,7 @@ ghost use Rattle.std.specs.Prelude.{◌≡◌, ◌++◌, ◌∷◌, [], is_none,
 ghost use Rattle.std.specs.Option.{option_copied};
 ghost use Rattle.hold_netlist.specs.NameTable.{number_of};
 ghost use Rattle.hold_plain.specs.Cells.{cell_named, arrival_in, clock_arrival};
-ghost use Rattle.hold_plain.specs.Tables.{cell_names, clock_names, AreTables, TellsPlaces};
+ghost use Rattle.hold_plain.specs.inner.Tables.{cell_names, clock_names, AreTables, TellsPlaces};
 
 use crate::cell::Cell;
 use crate::seeds::{cells_seed, clocks_seed};

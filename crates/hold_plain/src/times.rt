@@ -1,7 +1,8 @@
 ghost use Rattle.std.specs.Prelude.{◌≡◌, ◌+ℤ◌};
-ghost use Rattle.hold_plain.specs.Limits.{IsTimed};
+ghost use Rattle.hold_plain.specs.inner.Limits.{IsTimed};
 ghost use Rattle.hold_plain.specs.Problem.{clock_span, hold_of, known_or, launch_span, no_check, setup_of, step_span, sum_of, zero_span};
-ghost use Rattle.hold_graph.specs.Problem.{IsSpan, IsWithin, time_limit};
+ghost use Rattle.hold_graph.specs.Problem.{IsSpan, IsWithin};
+ghost use Rattle.hold_base.specs.Limits.{time_limit};
 
 use crate::cell::Check;
 use crate::pin_use::{PinRole, PinUse};

@@ -1,9 +1,11 @@
 ghost use Rattle.std.specs.Prelude.{◌≡◌, ◌≤◌, ◌++◌, map, length, All, IfOk, OnOk};
 ghost use Rattle.std.specs.Option.{option_copied};
-ghost use Rattle.hold_plain.specs.Limits.{IsTimed, KeepsLimits};
+ghost use Rattle.hold_plain.specs.inner.Limits.{IsTimed};
+ghost use Rattle.hold_plain.specs.Limits.{KeepsLimits};
 ghost use Rattle.hold_plain.specs.PinUses.{cell_uses, fed_name, inst_uses, insts_uses, port_role, port_use, ports_uses, stray_use, use_of, uses_of};
-ghost use Rattle.hold_plain.specs.Served.{IsScalar, IsUseWithin};
-ghost use Rattle.hold_plain.specs.Tables.{AreTables};
+ghost use Rattle.hold_plain.specs.Served.{IsScalar};
+ghost use Rattle.hold_plain.specs.inner.Served.{IsUseWithin};
+ghost use Rattle.hold_plain.specs.inner.Tables.{AreTables};
 
 use crate::cell::Cell;
 use crate::delays::{check_at, delay_to};

@@ -1,8 +1,11 @@
 ghost use Rattle.std.specs.Prelude.{◌≡◌, ◌↔◌, ◌≤◌, ◌^◌, length, All, IsTrue, IfOk, IfSome, IfNone};
+ghost use Rattle.hold_base.specs.Limits.{bound_bits_limit, bound_insts_limit};
 ghost use Rattle.hold_graph.specs.Graph.{EndsOnce};
 ghost use Rattle.hold_graph.specs.Problem.{IsValid};
-ghost use Rattle.hold_plain.specs.Limits.{IsTimed, KeepsLimits};
-ghost use Rattle.hold_plain.specs.Served.{IsScalar, IsServed, IsServedUses, IsUseWithin};
+ghost use Rattle.hold_plain.specs.inner.Limits.{IsTimed};
+ghost use Rattle.hold_plain.specs.Limits.{KeepsLimits};
+ghost use Rattle.hold_plain.specs.Served.{IsScalar, IsServed, IsServedUses};
+ghost use Rattle.hold_plain.specs.inner.Served.{IsUseWithin};
 ghost use Rattle.hold_plain.specs.Problem.{problem_of, problem_with};
 
 use crate::known::known_uses;
@@ -10,22 +13,17 @@ use crate::lists::problem_with;
 use crate::pin_use::PinUse;
 use crate::served::served_places;
 use crate::timing::Timing;
-use hold_base::Memory;
+use hold_base::{Memory, limits};
 use hold_graph::Problem;
 use hold_netlist::Netlist;
 use std::alloc::Global;
 
-/// The most net bits of a netlist that is served.
-const NET_LIMIT: usize = 1 << 21;
-
-/// The most instances of a netlist that is served.
-const INST_LIMIT: usize = 1 << 18;
-
 /// Whether there are no more net bits and instances than are served.
 fn is_within_counts(netlist: &Netlist) -> bool
-    ensures { IsTrue result ↔ (length netlist.now.wires ≤ 2 ^ 21) × (length netlist.now.insts ≤ 2 ^ 18) }
+    ensures { IsTrue result ↔ (length netlist.now.wires ≤ bound_bits_limit) × (length netlist.now.insts ≤ bound_insts_limit) }
 {
-    netlist.wires().len() <= NET_LIMIT && netlist.insts().len() <= INST_LIMIT
+    netlist.wires().len() as u64 <= limits::BOUND_BITS
+        && netlist.insts().len() as u64 <= limits::BOUND_INSTANCES
 }
 
 /// The timing problem of these pins, None exactly where they aren't served.
@@ -38,7 +36,7 @@ fn problem_of_uses(
     requires limits { KeepsLimits timing.now }
     requires timed { All IsTimed uses.now }
     requires within { All (IsUseWithin (length netlist.now.wires) (length netlist.now.insts)) uses.now }
-    requires insts { length netlist.now.insts ≤ 2 ^ 18 }
+    requires insts { length netlist.now.insts ≤ bound_insts_limit }
     ensures served { IfOk result (λ found. IfSome found (λ problem. IsServedUses uses.now)) }
     ensures is { IfOk result (λ found. IfSome found (λ problem. problem ≡ problem_with timing.now.period uses.now)) }
     ensures valid { IfOk result (λ found. IfSome found (λ problem. IsValid problem)) }

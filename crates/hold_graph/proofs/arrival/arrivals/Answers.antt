@@ -2,8 +2,8 @@ use Rattle.std.proofs.Common.{◌≡◌, ◌<◌, ap, sym, ◌∙◌, arith, rul
 use Rattle.std.specs.Prelude.{List, Option, None, ℤ}
 use Rattle.std.proofs.lemmas.Option.{slice_get-get_or}
 use Rattle.hold_base.specs.declared.number.PinNo.{PinNo}
-use Rattle.hold_graph.specs.Problem.{launch_limit}
-use Rattle.hold_graph.specs.Arrival.{AreWithin, lesser, offer, sum_limit}
+use Rattle.hold_base.specs.Limits.{launch_limit}
+use Rattle.hold_graph.specs.inner.Arrival.{AreWithin, lesser, offer, sum_limit}
 use Rattle.hold_graph.proofs.Pass.{IsPassOver, right_none, right_more, right_all, within_more, AreWithin-weaker, place_below}
 use Rattle.hold_graph.proofs.arrival.arrivals.Goals as goal
 

@@ -1,6 +1,6 @@
 use Rattle.std.proofs.Common.{◌≡◌, ◌+◌, ◌*◌, length}
-use Rattle.hold_graph.specs.Problem.{launch_limit}
-use Rattle.hold_graph.specs.Arrival.{AreWithin}
+use Rattle.hold_base.specs.Limits.{launch_limit}
+use Rattle.hold_graph.specs.inner.Arrival.{AreWithin}
 use Rattle.hold_graph.proofs.Pass.{AreRightUpTo}
 use Rattle.hold_graph.proofs.arrival.arrivals.Given as goal
 

@@ -2,7 +2,7 @@ use Rattle.std.proofs.Common.{ap, sym, ◌∙◌, arith}
 use Rattle.std.specs.Prelude.{Option, Some, ℤ}
 use Rattle.std.proofs.lemmas.Int.{ints}
 use Rattle.hold_graph.specs.Problem.{IsWithin}
-use Rattle.hold_graph.specs.Arrival.{sum_limit, extended}
+use Rattle.hold_graph.specs.inner.Arrival.{sum_limit, extended}
 use Rattle.hold_graph.proofs.arrival.extended.Goals as goal
 
 pub overflow_add-result : goal.overflow_add-result

@@ -2,7 +2,8 @@ use Rattle.std.proofs.Common.{◌∙◌, get_or, arith}
 use Rattle.std.specs.Prelude.{pos, FitsSigned}
 use Rattle.std.proofs.lemmas.Int.{to_z-of_z, ints}
 use mir.Syntax.{w64}
-use Rattle.hold_graph.specs.Problem.{IsWithin, launch_limit}
+use Rattle.hold_graph.specs.Problem.{IsWithin}
+use Rattle.hold_base.specs.Limits.{launch_limit}
 use Rattle.hold_graph.proofs.Pass.{offer_read}
 use Rattle.hold_graph.proofs.arrival.offer.Goals as goal
 

@@ -3,7 +3,7 @@ use Rattle.std.specs.Prelude.{All, ℤ}
 use Rattle.std.proofs.lemmas.Int.{to_z-of_z}
 use Rattle.std.proofs.lemmas.List.{take_all}
 use Rattle.hold_base.specs.declared.number.PinNo.{PinNo}
-use Rattle.hold_graph.specs.Arrival.{left_by, IsEnough}
+use Rattle.hold_graph.specs.inner.Arrival.{left_by, IsEnough}
 use Rattle.hold_graph.proofs.short.first_short.Goals as goal
 
 pub returns-clause-none : goal.returns-clause-none

@@ -1,7 +1,7 @@
 use Rattle.std.proofs.Common.{take}
 use Rattle.std.specs.Prelude.{All}
 use Rattle.hold_base.specs.declared.number.PinNo.{PinNo}
-use Rattle.hold_graph.specs.Arrival.{left_by, IsEnough}
+use Rattle.hold_graph.specs.inner.Arrival.{left_by, IsEnough}
 use Rattle.hold_graph.proofs.short.first_short.Given as goal
 
 abbrev pub invariant-loop-capture : goal.invariant-loop-capture

@@ -1,8 +1,9 @@
 use Rattle.std.proofs.Common.{◌≡◌, ap, arith, ◌+◌}
 use Rattle.std.specs.Prelude.{Option, Some, ℤ}
 use Rattle.std.proofs.lemmas.Int.{ints}
-use Rattle.hold_graph.specs.Problem.{IsWithin, launch_limit, time_limit}
-use Rattle.hold_graph.specs.Arrival.{sum_limit, left}
+use Rattle.hold_graph.specs.Problem.{IsWithin}
+use Rattle.hold_base.specs.Limits.{launch_limit, time_limit}
+use Rattle.hold_graph.specs.inner.Arrival.{sum_limit, left}
 use Rattle.hold_graph.proofs.short.left.Goals as goal
 
 pub total-requires : goal.total-requires

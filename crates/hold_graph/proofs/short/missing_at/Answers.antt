@@ -1,6 +1,6 @@
 use Rattle.std.proofs.Common.{◌∙◌, sym, arith, subst, to_z, of_z, w64}
 use Rattle.std.proofs.lemmas.Int.{ints}
-use Rattle.hold_graph.specs.Arrival.{AreWithin, sum_limit}
+use Rattle.hold_graph.specs.inner.Arrival.{AreWithin, sum_limit}
 use Rattle.hold_graph.proofs.Bounds.{left-within, coming-within, read-within}
 use Rattle.hold_graph.proofs.short.missing_at.Goals as goal
 

@@ -2,7 +2,7 @@ use Rattle.std.proofs.Common.{◌≡◌, ◌<◌, length, drop, get_or}
 use Rattle.std.specs.Prelude.{None}
 use Rattle.hold_base.specs.declared.number.PinNo.{PinNo}
 use Rattle.hold_graph.specs.Sums.{items_at}
-use Rattle.hold_graph.specs.Arrival.{least_from, least_at}
+use Rattle.hold_graph.specs.inner.Arrival.{least_from, least_at}
 use Rattle.hold_graph.proofs.table.least_by_pin.Given as goal
 
 abbrev pub invariant-loop-place : goal.invariant-loop-place

@@ -4,8 +4,9 @@ use Rattle.hold_base.specs.declared.time.Interval.{Interval}
 use Rattle.std.proofs.lemmas.List.{length-map}
 use Rattle.hold_graph.specs.declared.graph.Arc.{Arc}
 use Rattle.hold_graph.specs.declared.graph.Parts.{Parts}
-use Rattle.hold_graph.specs.Problem.{IsWithin, launch_limit, time_limit}
-use Rattle.hold_graph.specs.Arrival.{AreWithin, weight, checks_of}
+use Rattle.hold_graph.specs.Problem.{IsWithin}
+use Rattle.hold_base.specs.Limits.{launch_limit, time_limit}
+use Rattle.hold_graph.specs.inner.Arrival.{AreWithin, weight, checks_of}
 use Rattle.hold_graph.proofs.Bounds.{weights-within, negated-within, table-within, checks-within}
 use Rattle.hold_graph.proofs.tables.tables_of.Goals as goal
 

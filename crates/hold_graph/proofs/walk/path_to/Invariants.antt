@@ -2,7 +2,7 @@ use Rattle.std.proofs.Common.{◌≡◌, ℕ, ◌<◌, get_or}
 use Rattle.std.specs.Prelude.{reverse, None, Some, ℤ, slice_index}
 use Rattle.hold_base.specs.declared.time.Side.{Side}
 use Rattle.hold_graph.specs.declared.problem.Spans.{Spans}
-use Rattle.hold_graph.specs.Arrival.{coming, IsSettled}
+use Rattle.hold_graph.specs.inner.Arrival.{coming, IsSettled}
 use Rattle.hold_graph.proofs.Walks.{IsBack}
 use Rattle.hold_graph.proofs.walk.path_to.Given as goal
 

@@ -2,7 +2,7 @@ use Rattle.std.proofs.Common.{◌≡◌, ◌∙◌, ap, sym, subst, to_z, of_z, 
 use Rattle.std.specs.Prelude.{List, Option, ℤ, FitsSigned}
 use Rattle.std.proofs.lemmas.Int.{to_z-of_z}
 use Rattle.hold_graph.specs.declared.graph.Parts.{Parts}
-use Rattle.hold_graph.specs.Arrival.{base_of, IsShort}
+use Rattle.hold_graph.specs.inner.Arrival.{base_of, IsShort}
 use Rattle.hold_graph.proofs.Captures.{met_by, short_by, FoundFor}
 use Rattle.hold_graph.proofs.worst.short_path.Goals as goal
 

@@ -2,7 +2,7 @@ use Rattle.std.proofs.Common.{◌≡◌, ℕ, ◌<◌}
 use Rattle.std.specs.Prelude.{Some, slice_get}
 use Rattle.hold_base.specs.declared.time.Side.{Side}
 use Rattle.hold_graph.specs.declared.problem.Spans.{Spans}
-use Rattle.hold_graph.specs.Arrival.{IsMetAt}
+use Rattle.hold_graph.specs.inner.Arrival.{IsMetAt}
 use Rattle.hold_graph.proofs.worst.worst_line.Given as goal
 
 abbrev pub invariant-loop-number : goal.invariant-loop-number

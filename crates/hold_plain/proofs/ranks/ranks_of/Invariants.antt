@@ -1,5 +1,5 @@
 use Rattle.std.proofs.Common.{◌≡◌, map, take}
-use Rattle.hold_plain.specs.Problem.{rank_of}
+use Rattle.hold_plain.specs.inner.Problem.{rank_of}
 use Rattle.hold_plain.proofs.ranks.ranks_of.Given as goal
 
 abbrev pub invariant-loop-pin : goal.invariant-loop-pin

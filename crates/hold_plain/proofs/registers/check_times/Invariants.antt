@@ -1,5 +1,5 @@
 use Rattle.std.proofs.Common.{◌≡◌, ◌++◌, drop}
-use Rattle.hold_plain.specs.RegisterPins.{check_time}
+use Rattle.hold_plain.specs.inner.RegisterPins.{check_time}
 use Rattle.hold_plain.specs.Problem.{is_data, uses_with}
 use Rattle.hold_plain.proofs.registers.check_times.Given as goal
 

@@ -1,5 +1,5 @@
 use Rattle.std.proofs.Common.{◌≡◌, ◌++◌, drop}
-use Rattle.hold_plain.specs.RegisterPins.{is_of}
+use Rattle.hold_plain.specs.inner.RegisterPins.{is_of}
 use Rattle.hold_plain.specs.Problem.{pins_from}
 use Rattle.hold_plain.proofs.registers.pins_of.Given as goal
 

@@ -1,7 +1,8 @@
 use Rattle.std.proofs.Common.{◌≡◌, drop}
 use Rattle.std.specs.Hash.DefaultHasher as sip
-use Rattle.hold_netlist.specs.Seed.{start_of, with_texts}
-use Rattle.hold_plain.specs.Tables.{clock_names}
+use Rattle.hold_netlist.specs.Seed.{start_of}
+use Rattle.hold_netlist.specs.inner.Seed.{with_texts}
+use Rattle.hold_plain.specs.inner.Tables.{clock_names}
 use Rattle.hold_plain.proofs.seeds.clocks_seed.Given as goal
 
 -- what is left makes the seed of all

@@ -1,5 +1,5 @@
 use Rattle.std.proofs.Common.{◌≡◌, [], drop}
-use Rattle.hold_plain.specs.Tables.{cell_names}
+use Rattle.hold_plain.specs.inner.Tables.{cell_names}
 use Rattle.hold_plain.proofs.TableLemmas.{with_names}
 use Rattle.hold_plain.proofs.tables.cell_places.Given as goal
 

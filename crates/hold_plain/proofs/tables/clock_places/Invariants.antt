@@ -1,5 +1,5 @@
 use Rattle.std.proofs.Common.{◌≡◌, [], drop}
-use Rattle.hold_plain.specs.Tables.{clock_names}
+use Rattle.hold_plain.specs.inner.Tables.{clock_names}
 use Rattle.hold_plain.proofs.TableLemmas.{with_names}
 use Rattle.hold_plain.proofs.tables.clock_places.Given as goal
 

@@ -5,9 +5,9 @@ use Rattle.hold_netlist.specs.declared.wire.Port.{Port}
 use Rattle.hold_netlist.specs.Design.{Design}
 use Rattle.hold_plain.specs.declared.pin_use.PinUse.{PinUse}
 use Rattle.hold_plain.specs.declared.timing.Timing.{Timing}
-use Rattle.hold_plain.specs.Limits.{IsTimed}
+use Rattle.hold_plain.specs.inner.Limits.{IsTimed}
 use Rattle.hold_plain.specs.PinUses.{insts_uses, ports_uses, uses_of}
-use Rattle.hold_plain.specs.Served.{IsUseWithin}
+use Rattle.hold_plain.specs.inner.Served.{IsUseWithin}
 use Rattle.hold_plain.proofs.UsePlaces.{ports_few, within_uses}
 use Rattle.hold_plain.proofs.UseTimes.{timed_uses}
 use Rattle.hold_plain.proofs.uses.uses_of.Goals as goal

@@ -8,8 +8,9 @@ use Rattle.hold_graph.specs.declared.graph.Parts.{Parts}
 use Rattle.hold_graph.specs.declared.graph.Ordered.{Ordered}
 use Rattle.hold_graph.specs.declared.problem.Spans.{Spans}
 use Rattle.hold_graph.specs.declared.tables.Tables.{Tables}
-use Rattle.hold_graph.specs.Problem.{IsWithin, launch_limit}
-use Rattle.hold_graph.specs.Arrival.{weight, sum_limit, AreWithin, AreTables}
+use Rattle.hold_graph.specs.Problem.{IsWithin}
+use Rattle.hold_base.specs.Limits.{launch_limit}
+use Rattle.hold_graph.specs.inner.Arrival.{weight, sum_limit, AreWithin, AreTables}
 
 pub record AreSized (line : Ordered) (tables : Tables) : Type 0 where
   pub steps_each : length tables.steps.items ≡ length line.arcs.now

@@ -20,7 +20,7 @@
 -- coming side arcs spans into best pin: what the arc that ends at a pin brings there, none where no arc does.
 -- signed_steps side arcs spans a rest: the steps of a path from a on with no buffers, as the pass adds them.
 -- IsSettled: the tables of one side after the pass: each pin's best is right. Each arc has its span and ends at a pin that
---   is there, at most one ends at each pin, and `into` tells its place.
+--   is there, and `into` tells the place of the one arc that ends at a pin.
 -- checks_of side spans: the times that the side's check takes away, hold at the early side and setup at the late one.
 -- base_of side period: what the side adds to every path, the period at the late side and 0 at the early one.
 -- left coming end check base: what is left at a capture, the sum of these; none where a part is missing.
@@ -46,8 +46,7 @@ use Rattle.hold_graph.specs.declared.graph.Parts.{Parts}
 use Rattle.hold_graph.specs.declared.problem.Spans.{Spans}
 use Rattle.hold_graph.specs.declared.problem.Problem.{Problem}
 use Rattle.hold_graph.specs.Met.{excess}
-use Rattle.hold_graph.specs.Graph.{EndsOnce}
-use Rattle.hold_graph.specs.Order.{IsInto}
+use Rattle.hold_graph.specs.inner.Order.{IsInto}
 use Rattle.hold_graph.specs.Problem.{IsWithin}
 use Rattle.hold_graph.specs.Path.{EachNext, last_pin, IsCheckedPath}
 use Rattle.hold_graph.specs.Sums.{end_of, items_at, steps_sum, no_buffers}
@@ -103,7 +102,6 @@ abbrev pub signed_steps : Side → List Arc → Spans → PinNo → List PinNo �
 signed_steps side arcs spans a rest = signed side (steps_sum side arcs spans no_buffers a rest)
 
 pub record IsSettled (side : Side) (pins : ℕ) (arcs : List Arc) (spans : Spans) (starts : List (Option ℤ)) (into : List (Option ℕ)) (best : List (Option ℤ)) : Type 0 where
-  pub once : EndsOnce arcs
   pub each : length spans.arcs ≡ length arcs
   pub to : All (λ arc. arc.to.0 < pins) arcs
   pub places : IsInto arcs into

@@ -4,7 +4,7 @@ use Rattle.std.specs.Prelude.{◌≡◌, ◌<◌, length, All}
 use Rattle.hold_graph.specs.declared.graph.Parts.{Parts}
 use Rattle.hold_graph.specs.declared.graph.Ordered.{Ordered}
 use Rattle.hold_graph.specs.Graph.{Rises}
-use Rattle.hold_graph.specs.Order.{IsInto, IsOrder}
+use Rattle.hold_graph.specs.inner.Order.{IsInto, IsOrder}
 
 pub record IsInOrder (line : Ordered) : Type 0 where
   pub from : All (λ arc. arc.from.0 < line.pins) line.arcs.now

@@ -9,7 +9,7 @@ use Rattle.std.specs.List.Sorted.{IsNonDecreasingBy}
 use Rattle.hold_base.specs.declared.number.PinNo.{PinNo}
 use Rattle.hold_graph.specs.declared.graph.Arc.{Arc}
 use Rattle.hold_graph.specs.declared.graph.Parts.{Parts}
-use Rattle.hold_graph.specs.Graph.{IsRanked}
+use Rattle.hold_graph.specs.inner.Graph.{IsRanked}
 
 pub record IsInto (arcs : List Arc) (into : List (Option ℕ)) : Type 0 where
   pub ends : (place : ℕ) (arc : Arc) → slice_get arcs place ≡ Some arc → slice_index_or into arc.to.0 None ≡ Some place
