@@ -12,7 +12,7 @@ use Rattle.hold_netlist.specs.Names.{is_among}
 use Rattle.hold_vsyntax.specs.declared.tree.Module.{Module}
 use Rattle.hold_vparse.specs.declared.barred.Barred.{Barred}
 use Rattle.hold_vparse.specs.declared.barred_names.BarredNames.{BarredNames}
-use Rattle.hold_vparse.specs.Barred.{is_barred, found_or_none, barred_in, Bars}
+use Rattle.hold_vparse.specs.inner.Barred.{is_barred, found_or_none, barred_in, Bars}
 use Rattle.hold_vparse.specs.DoubleNames.{Mention, Role, clash, declares_again}
 use Rattle.hold_vparse.specs.Lines.{header_names}
 use Rattle.hold_vparse.specs.Nets.{names, declared_names}

@@ -8,13 +8,15 @@ use Rattle.std.specs.List.{AllByRecursion, list_any}
 use Rattle.std.proofs.lemmas.Bool.{false_from_ne_true, and_from, or_parts, or_from}
 use Rattle.std.proofs.lemmas.List.Folds.{list_any-append}
 use Rattle.std.proofs.lemmas.Slice.Eq.{bytes_eq-Decides}
+use Rattle.hold_base.proofs.Bools.{cond-nil}
+use Rattle.hold_base.proofs.Bytes.{bytes_eq-swap}
 use Rattle.hold_netlist.specs.Names.{is_among}
 use Rattle.hold_vsyntax.specs.declared.tree.Module.{Module}
 use Rattle.hold_vparse.specs.Lines.{header_names}
 use Rattle.hold_vparse.specs.Nets.{names, declared_names}
 use Rattle.hold_vparse.specs.DoubleNames.{Mention, clash, declares_again, doubles}
-use Rattle.hold_vparse.proofs.NameLists.{NoneAmong, Differ, bytes_eq-swap}
-use Rattle.hold_vparse.proofs.Clear.{IsClear, no_item}
+use Rattle.hold_vparse.proofs.ClearMentions.{IsClear}
+use Rattle.hold_vparse.proofs.NameLists.{NoneAmong, Differ}
 
 abbrev pub NoneClash : Module → List Mention → Type 0
 NoneClash m [] = Unit {0}
@@ -37,7 +39,7 @@ each_apart m seen x (y ∷ ys) h =
 pub none_clash : (m : Module) (seen xs : List Mention) → doubles m seen xs ≡ [] → AllByRecursion (IsClear m seen) xs × NoneClash m xs
 none_clash m seen [] h = (tt, tt)
 none_clash m seen (x ∷ xs) h =
-    let parts = no_item (list_any (declares_again m x) seen) x.name (doubles m (seen ++ x ∷ []) xs) h in
+    let parts = cond-nil (list_any (declares_again m x) seen) x.name (doubles m (seen ++ x ∷ []) xs) h in
     let rest = none_clash m (seen ++ x ∷ []) xs parts.1 in
     let each = each_apart m seen x xs rest.0 in
     ((parts.0, each.0), (each.1, rest.1))

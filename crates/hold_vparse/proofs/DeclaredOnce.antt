@@ -4,6 +4,8 @@ use Rattle.std.specs.Prelude.{None}
 use Rattle.std.proofs.lemmas.Bool.{false_from_ne_true, true_from_ne_false, or_parts, or_from}
 use Rattle.std.proofs.lemmas.Simd.{map-map}
 use Rattle.std.proofs.lemmas.Slice.Eq.{bytes_eq-Decides}
+use Rattle.hold_base.proofs.Lists.{append-nil_left, append-nil_right}
+use Rattle.hold_base.proofs.Bools.{cond-None, cond-nil}
 use Rattle.hold_netlist.specs.Names.{wire_names, pin_names, is_among}
 use Rattle.hold_netlist.specs.Doubles.{first_repeat, first_double_in_insts, first_double_name}
 use Rattle.hold_netlist.specs.declared.wire.Wire.{Wire}
@@ -15,14 +17,12 @@ use Rattle.hold_vparse.specs.Lines.{PortLine, WireLine, body_lines, wire_lines, 
 use Rattle.hold_vparse.specs.Nets.{names, port_idents, declared_names, uses, first_uses, nets}
 use Rattle.hold_vparse.specs.DoubleNames.{Role, ListsPort, DeclaresPort, GivesDirection, DeclaresWire, DeclaresInstance, UsesNet, Mention, mentions, doubles, repeated_pins, repeated_in, doubled}
 use Rattle.hold_vparse.specs.PortFaults.{misdeclared}
-use Rattle.hold_vparse.specs.Uses.{is_use}
+use Rattle.hold_vparse.specs.inner.Uses.{is_use}
 use Rattle.hold_vparse.specs.Declares.{pin, inst, design_of}
-use Rattle.hold_vparse.proofs.NameLists.{NoneAmong, Differ, is_among-append, among_neither, if_none, unrepeated}
+use Rattle.hold_vparse.proofs.DeclaredWires.{wire_of_line}
+use Rattle.hold_vparse.proofs.NameLists.{NoneAmong, Differ, is_among-append, among_neither, unrepeated}
 use Rattle.hold_vparse.proofs.NamesOnce.{none_repeats, none_repeats-append, among_nothing, none_among_fewer, not_among, filter-absent, filter-differ}
-use Rattle.hold_vparse.proofs.Clear.{no_item}
-use Rattle.hold_vparse.proofs.NetlistLemmas.{nil_left, nil_right}
 use Rattle.hold_vparse.proofs.UsedNets.{net_names}
-use Rattle.hold_vparse.proofs.DeclaredNets.{wire_of_line}
 use Rattle.hold_vparse.proofs.Clashes.{NoneClash, picked, none_clash}
 use Rattle.hold_vparse.proofs.MentionKinds.{by_role, is_port, is_wire, claims, claims_net, line_name, inst_name, port_mentions, wire_mentions, picked-wider, use_mentions}
 use Rattle.hold_vparse.proofs.MentionClashes.{ports_differ, wires_differ, insts_differ, insts_claim_none}
@@ -89,7 +89,7 @@ use_claims net UsesNet undeclared h = ap not undeclared
 pins_once : (wires : List Wire) (seen : List (List ℕ)) (cs : List Connection) → repeated_pins seen cs ≡ [] → first_repeat seen (pin_names (map (pin wires) cs)) ≡ None
 pins_once wires seen [] h = refl
 pins_once wires seen (c ∷ cs) h =
-    let parts = no_item (is_among c.pin.name seen) c.pin (repeated_pins (seen ++ c.pin.name ∷ []) cs) h in
+    let parts = cond-nil (is_among c.pin.name seen) c.pin (repeated_pins (seen ++ c.pin.name ∷ []) cs) h in
     let new = parts.0 in
     rw new (pins_once wires (seen ++ c.pin.name ∷ []) cs parts.1)
 
@@ -97,10 +97,10 @@ insts_once : (wires : List Wire) (seen : List (List ℕ)) (is : List (Ident × I
     → flat_map repeated_in is ≡ [] → first_double_in_insts seen (map (inst wires) is) ≡ None
 insts_once wires seen [] h pins = refl
 insts_once wires seen (i ∷ is) h pins =
-    let n = if_none (is_among (inst_name i) seen) (inst_name i) (first_repeat (seen ++ inst_name i ∷ []) (map inst_name is)) h in
+    let n = cond-None (is_among (inst_name i) seen) (inst_name i) (first_repeat (seen ++ inst_name i ∷ []) (map inst_name is)) h in
     let new = n.0 in
-    let here = pins_once wires [] i.1.connections (nil_left (repeated_in i) (flat_map repeated_in is) pins) in
-    rw (new, here) (insts_once wires (seen ++ inst_name i ∷ []) is n.1 (nil_right (repeated_in i) (flat_map repeated_in is) pins))
+    let here = pins_once wires [] i.1.connections (append-nil_left (repeated_in i) (flat_map repeated_in is) pins) in
+    rw (new, here) (insts_once wires (seen ++ inst_name i ∷ []) is n.1 (append-nil_right (repeated_in i) (flat_map repeated_in is) pins))
 
 module _ (m : Module) (once : doubled m ≡ []) where
   abbrev ports : List (List ℕ)
@@ -113,10 +113,10 @@ module _ (m : Module) (once : doubled m ≡ []) where
   implicit = names (first_uses (declared_names m) (uses m))
 
   pins_apart : flat_map repeated_in (instances m.items) ≡ []
-  pins_apart = nil_right (doubles m [] (mentions m)) (flat_map repeated_in (instances m.items)) once
+  pins_apart = append-nil_right (doubles m [] (mentions m)) (flat_map repeated_in (instances m.items)) once
 
   clear : NoneClash m (mentions m)
-  clear = (none_clash m [] (mentions m) (nil_left (doubles m [] (mentions m)) (flat_map repeated_in (instances m.items)) once)).1
+  clear = (none_clash m [] (mentions m) (append-nil_left (doubles m [] (mentions m)) (flat_map repeated_in (instances m.items)) once)).1
 
   split_names : wire_names (nets m) ≡ ports ++ (others ++ implicit)
   split_names = net_names m ∙ ap (λ ns. ports ++ (ns ++ implicit)) (map-map (λ (w : Wire). w.name) wire_of_line (filter (λ (l : WireLine). not (is_among l.name.name ports)) (wire_lines m.items)))

@@ -1,6 +1,7 @@
 -- A module without faults declares a netlist whose parts fit together, also without its assignments.
 use Rattle.std.proofs.Common.{◌≡◌, List, [], ap, ◌∙◌}
 use Rattle.std.specs.Prelude.{None, flat_map}
+use Rattle.hold_base.proofs.Lists.{append-nil_left, append-nil_right}
 use Rattle.hold_netlist.specs.Doubles.{first_double_name}
 use Rattle.hold_netlist.specs.WellFormed.{IsWellFormed}
 use Rattle.hold_netlist.specs.declared.wire.Wire.{Wire}
@@ -11,11 +12,10 @@ use Rattle.hold_vsyntax.specs.declared.tree.Assignment.{Assignment}
 use Rattle.hold_vsyntax.specs.declared.tree.Module.{Module}
 use Rattle.hold_vsyntax.specs.Named.{IsNamedModule}
 use Rattle.hold_vparse.specs.BitFaults.{misfit_assignment, misfit_named}
-use Rattle.hold_vparse.specs.Clear.{IsClear}
-use Rattle.hold_vparse.specs.DesignWith.{assigns_of, design_with}
+use Rattle.hold_vparse.specs.inner.Clear.{IsClear}
+use Rattle.hold_vparse.specs.inner.DesignWith.{assigns_of, design_with}
 use Rattle.hold_vparse.specs.Lines.{assignments, instances}
 use Rattle.hold_vparse.specs.Nets.{nets}
-use Rattle.hold_vparse.proofs.NetlistLemmas.{nil_left, nil_right}
 use Rattle.hold_vparse.proofs.DeclaredFits.{declared-IsWellFormed}
 use Rattle.hold_vparse.proofs.DeclaredOnce.{declared-no_doubles}
 
@@ -36,9 +36,9 @@ module _ (m : Module) (clear : IsClear m) where
   pub assigns_fit : (wires : List Wire) (list : List Assignment) → wires ≡ nets m → list ≡ assignments m.items → flat_map (misfit_assignment wires) list ≡ []
   assigns_fit wires list w l =
       ap (λ ws. flat_map (misfit_assignment ws) list) w ∙ ap (λ more. flat_map (misfit_assignment (nets m)) more) l
-      ∙ nil_left (flat_map (misfit_assignment (nets m)) (assignments m.items)) (flat_map (misfit_named (nets m)) (instances m.items)) clear.bits
+      ∙ append-nil_left (flat_map (misfit_assignment (nets m)) (assignments m.items)) (flat_map (misfit_named (nets m)) (instances m.items)) clear.bits
 
   pub insts_fit : (wires : List Wire) (list : List (Ident × Instance)) → wires ≡ nets m → list ≡ instances m.items → flat_map (misfit_named wires) list ≡ []
   insts_fit wires list w l =
       ap (λ ws. flat_map (misfit_named ws) list) w ∙ ap (λ is. flat_map (misfit_named (nets m)) is) l
-      ∙ nil_right (flat_map (misfit_assignment (nets m)) (assignments m.items)) (flat_map (misfit_named (nets m)) (instances m.items)) clear.bits
+      ∙ append-nil_right (flat_map (misfit_assignment (nets m)) (assignments m.items)) (flat_map (misfit_named (nets m)) (instances m.items)) clear.bits

@@ -11,7 +11,7 @@ use Rattle.hold_vsyntax.specs.declared.tree.Header.{Header}
 use Rattle.hold_vsyntax.specs.declared.tree.Header.TheVariants.{Bare, Plain, Declared}
 use Rattle.hold_vsyntax.specs.declared.tree.Module.{Module}
 use Rattle.hold_vparse.specs.BitFaults.{misfit_assignment, misfit_named, misfit}
-use Rattle.hold_vparse.specs.Found.{merged}
+use Rattle.hold_vparse.specs.inner.Found.{merged}
 use Rattle.hold_vparse.specs.Lines.{PortLine, WireLine, header_names, header_lines, body_lines, wire_lines, line_of, assignments, instances}
 use Rattle.hold_vparse.specs.Nets.{names, nets}
 use Rattle.hold_vparse.specs.PortFaults.{undirected, unlisted, unlike, unlike_line, misdeclared}

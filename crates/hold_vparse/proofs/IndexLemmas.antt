@@ -6,13 +6,14 @@ use Rattle.hold_netlist.specs.Names.{is_among}
 use Rattle.hold_netlist.specs.NameTable.{number_of}
 use Rattle.std.proofs.lemmas.Bool.{cases_Bool}
 use Rattle.std.proofs.lemmas.List.{take_more, map-append, length-map, length-take-le}
-use Rattle.std.proofs.lemmas.Slice.Eq.{bytes_eq-Decides}
+use Rattle.hold_base.proofs.Bytes.{bytes_eq-same}
+use Rattle.hold_base.proofs.Options.{option_or-some_left, option_or-none_right}
 use Rattle.std.specs.Borrow.{Bor}
 use Rattle.std.proofs.Common.{inl, inr}
 use Rattle.hold_vsyntax.specs.declared.tree.Ident.{Ident}
-use Rattle.hold_vparse.specs.Flat.{targets}
+use Rattle.hold_vparse.specs.inner.Flat.{targets}
 use Rattle.hold_vparse.specs.Nets.{names}
-use Rattle.hold_vparse.specs.Index.{place_of, IsIndex}
+use Rattle.hold_vparse.specs.inner.Index.{place_of, IsIndex}
 
 map_or : (a b : Option ℕ) → option_map suc (option_or a b) ≡ option_or (option_map suc a) (option_map suc b)
 map_or None b = refl
@@ -54,21 +55,13 @@ is_some-place_of name (x ∷ xs) = by (bytes_eq name x) (is_some-place_of name x
     by true h = refl
     by false h = mapped (place_of name xs) ∙ h
 
-some_stays : (a b : Option ℕ) → false ≡ is_none a → a ≡ option_or a b
-some_stays None b h = cc
-some_stays (Some n) b h = refl
-
-none_stays : (a : Option ℕ) → a ≡ option_or a None
-none_stays None = refl
-none_stays (Some n) = refl
-
 -- a name that the table has already changes nothing
 known : (pairs : List (List ℕ × ℕ)) (name x : List ℕ) (n : ℕ) → false ≡ is_none (number_of x pairs)
     → number_of name pairs ≡ option_or (number_of name pairs) (cond (bytes_eq name x) (Some n) None)
 known pairs name x n h =
     elim (cases_Bool (bytes_eq name x)) [
-      | inl same ↦ some_stays (number_of name pairs) _ (h ∙ ap (λ (y : List ℕ). is_none (number_of y pairs)) (sym ((bytes_eq-Decides name x).0 same)))
-      | inr other ↦ subst (λ (b : Bool). number_of name pairs ≡ option_or (number_of name pairs) (cond b (Some n) None)) (sym other) (none_stays (number_of name pairs))
+      | inl same ↦ sym (option_or-some_left (number_of name pairs) _ (ap (λ (y : List ℕ). is_none (number_of y pairs)) (bytes_eq-same name x same) ∙ sym h))
+      | inr other ↦ subst (λ (b : Bool). number_of name pairs ≡ option_or (number_of name pairs) (cond b (Some n) None)) (sym other) (sym (option_or-none_right (number_of name pairs)))
     ]
 
 -- the table after one name more

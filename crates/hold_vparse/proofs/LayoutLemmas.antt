@@ -1,38 +1,41 @@
 -- Where the bits of a net stand among all bits.
-use Rattle.std.proofs.Common.{◌≡◌, ℕ, zero, suc, ◌+◌, ◌≤◌, ◌<◌, List, [], ◌∷◌, Bool, true, false, cond, refl, sym, ap, ◌∙◌, bytes_eq, length, get_or, arith, subst}
-use Rattle.std.specs.Prelude.{Option, None, Some, slice_get}
+use Rattle.std.proofs.Common.{◌≡◌, ℕ, zero, suc, ◌+◌, ◌≤◌, ◌<◌, List, [], ◌∷◌, Bool, true, false, cond, refl, sym, ap, ◌∙◌, bytes_eq, length, get_or, take, arith, subst}
+use Rattle.std.specs.Prelude.{Option, None, Some}
 use Rattle.std.specs.Option.{option_map}
 use Rattle.std.specs.List.{list_any}
 use Rattle.std.specs.Prelude.{nat_lt}
 use Rattle.std.proofs.lemmas.Bool.{ltb-false, or_parts}
+use Rattle.hold_base.specs.Limits.{bound_limit}
 use Rattle.hold_vparse.specs.NameFaults.{has_large_bound, is_large_range}
 use Rattle.std.proofs.lemmas.List.Sums.{sum_by-cons}
-use Rattle.std.proofs.lemmas.Option.{slice_get_within, get_or_from_slice_get, slice_get_read}
+use Rattle.std.proofs.lemmas.Option.{slice_get_read}
 use Rattle.std.proofs.lemmas.List.{length-map}
 use Rattle.hold_vparse.proofs.LineLemmas.{reach-some}
 use Rattle.hold_netlist.specs.Bits.{bits_of, width_of, width_of_range}
 use Rattle.hold_netlist.specs.Names.{wire_names}
+use Rattle.hold_netlist.specs.Numbering.{first_of}
+use Rattle.hold_netlist.specs.inner.Numbering.{firsts_from}
+use Rattle.hold_netlist.proofs.NumberingLemmas.{length-table, table-at}
 use Rattle.hold_netlist.specs.WellFormed.{HasBoundsInLimit}
 use Rattle.hold_netlist.specs.declared.wire.Wire.{Wire}
 use Rattle.hold_vparse.specs.BitFaults.{reach}
 use Rattle.hold_vparse.specs.Declares.{first_bit}
-use Rattle.hold_vparse.specs.FirstBits.{first_bits}
-use Rattle.hold_vparse.specs.Index.{place_of}
+use Rattle.hold_vparse.specs.inner.Index.{place_of}
 
--- the numbers at the places of the names
-pub first_bits-place : (n : ℕ) (name : List ℕ) (ws : List Wire) (p : ℕ) → place_of name (wire_names ws) ≡ Some p → slice_get (first_bits n ws) p ≡ Some (n + first_bit ws name)
-first_bits-place n name [] p h = cc
-first_bits-place n name (w ∷ ws) p h = by (bytes_eq name w.name) (place_of name (wire_names ws)) p h (λ m q e. first_bits-place m name ws q e)
+-- a net's first bit is that of its wire
+first_bit-place : (name : List ℕ) (ws : List Wire) (p : ℕ) → place_of name (wire_names ws) ≡ Some p → first_bit ws name ≡ first_of width_of ws p
+first_bit-place name [] p h = cc
+first_bit-place name (w ∷ ws) p h = by (bytes_eq name w.name) (place_of name (wire_names ws)) p h (λ q e. first_bit-place name ws q e)
   where
-    by : (b : Bool) (o : Option ℕ) (p : ℕ) → cond b (Some 0) (option_map suc o) ≡ Some p → ((m q : ℕ) → o ≡ Some q → slice_get (first_bits m ws) q ≡ Some (m + first_bit ws name))
-        → slice_get (n ∷ first_bits (n + width_of w) ws) p ≡ Some (n + cond b 0 (width_of w + first_bit ws name))
-    by true o zero h rest = ap Some (omega arith)
+    by : (b : Bool) (o : Option ℕ) (p : ℕ) → cond b (Some 0) (option_map suc o) ≡ Some p → ((q : ℕ) → o ≡ Some q → first_bit ws name ≡ first_of width_of ws q)
+        → cond b 0 (width_of w + first_bit ws name) ≡ first_of width_of (w ∷ ws) p
+    by true o zero h rest = omega arith
     by true o (suc p) h rest = cc
     by false None p h rest = cc
     by false (Some q) zero h rest = cc
     by false (Some q) (suc p) h rest =
         let same : q ≡ p = cc in
-        rest (n + width_of w) p (ap Some same) ∙ ap Some (omega arith)
+        omega (arith, rest p (ap Some same), sum_by-cons width_of w (take p ws))
 
 -- a name that no wire has is numbered past all bits
 pub first_bit-none : (name : List ℕ) (ws : List Wire) → place_of name (wire_names ws) ≡ None → first_bit ws name ≡ bits_of ws
@@ -58,7 +61,7 @@ first_bit-reach name (w ∷ ws) r h = by (bytes_eq name w.name) h (λ e. first_b
 -- bounds that aren't large are in the limit
 pub small_range : (r : Option (ℕ × ℕ)) → is_large_range r ≡ false → HasBoundsInLimit r
 small_range None h = tt
-small_range (Some r) h = let each = or_parts (nat_lt 1048575 r.0) (nat_lt 1048575 r.1) h in (ltb-false 1048575 r.0 each.0, ltb-false 1048575 r.1 each.1)
+small_range (Some r) h = let each = or_parts (nat_lt bound_limit r.0) (nat_lt bound_limit r.1) h in (ltb-false bound_limit r.0 each.0, ltb-false bound_limit r.1 each.1)
 
 pub small_first : (w : Wire) (ws : List Wire) → list_any has_large_bound (w ∷ ws) ≡ false → HasBoundsInLimit w.range
 small_first w ws h = small_range w.range (or_parts (has_large_bound w) (list_any has_large_bound ws) h).0
@@ -92,11 +95,11 @@ module _ (name : List ℕ) (ws : List Wire) (p : ℕ) (at : place_of name (wire_
   pub wire-lt : p < length ws
   wire-lt = omega (arith, place_of-lt name (wire_names ws) p at, length-map ws (λ (w : Wire). w.name))
 
-  pub first-lt : (firsts : List ℕ) → firsts ≡ first_bits 0 ws → p < length firsts
-  first-lt firsts e = slice_get_within firsts p _ (ap (λ (l : List ℕ). slice_get l p) e ∙ first_bits-place 0 name ws p at)
+  pub first-lt : (firsts : List ℕ) → firsts ≡ firsts_from 0 width_of ws → p < length firsts
+  first-lt firsts e = omega (arith, wire-lt, length-table width_of ws firsts e)
 
-  pub first-at : (firsts : List ℕ) → firsts ≡ first_bits 0 ws → get_or firsts p 0 ≡ first_bit ws name
-  first-at firsts e = omega (arith, get_or_from_slice_get firsts p (0 + first_bit ws name) 0 (ap (λ (l : List ℕ). slice_get l p) e ∙ first_bits-place 0 name ws p at))
+  pub first-at : (firsts : List ℕ) → firsts ≡ firsts_from 0 width_of ws → get_or firsts p 0 ≡ first_bit ws name
+  first-at firsts e = table-at width_of ws firsts e p (omega (arith, wire-lt)) ∙ sym (first_bit-place name ws p at)
 
   pub range-at : (w : Wire) → w ≡ get_or ws p w → Some (get_or ws p w).range ≡ reach ws name
   range-at w is = ap (λ (v : Wire). Some v.range) (sym is) ∙ ap (option_map (λ (v : Wire). v.range)) (sym (slice_get_read ws (length ws) p w refl wire-lt is)) ∙ reach-some name ws p at

@@ -7,30 +7,7 @@ pub mod UnlikeLemmas
 pub mod UseLemmas
 pub mod PartLemmas
 pub mod OneReading
-pub mod CanonicalTree
 pub mod NameLists
-pub mod BitPlaces
-pub mod Statements
-pub mod Pairs
-pub mod BitParts
-pub mod Placed
-pub mod PortLines
-pub mod DeclaredNets
-pub mod DeclaredDesign
-pub mod Clear
-pub mod NoDoubles
-pub mod NoFaults
-pub mod TreeParts
-pub mod TreeBits
-pub mod CanonicalDesign
-pub mod Spells
-pub mod SpelledTokens
-pub mod SpelledBits
-pub mod SpelledLines
-pub mod SpelledText
-pub mod ModulePieces
-pub mod CanonicalIsTree
-pub mod CanonicalReads
 pub mod LayoutLemmas
 pub mod NetlistLemmas
 pub mod SoonestLemmas
@@ -48,5 +25,6 @@ mod SelectedBits
 mod UsedNets
 pub mod DesignLemmas
 mod RolesEqual
-pub mod SliceGetLemmas
 pub mod NumberTableLemmas
+pub mod DeclaredWires
+pub mod ClearMentions

@@ -1,19 +1,17 @@
 -- Looking up lines by their first places.
-use Rattle.std.proofs.Common.{◌≡◌, ℕ, suc, List, [], ◌∷◌, Bool, true, false, cond, refl, sym, ap, ◌∙◌, bytes_eq, map, length, get_or, is_some, ltb}
+use Rattle.std.proofs.Common.{◌≡◌, ℕ, suc, List, [], ◌∷◌, Bool, true, false, cond, refl, sym, ap, ◌∙◌, bytes_eq, map}
 use Rattle.std.specs.Prelude.{Option, None, Some, slice_get}
-use Rattle.std.specs.Option.{option_map, IfSome}
-use Rattle.std.specs.Borrow.{Bor}
-use Rattle.std.proofs.lemmas.Bool.{ltb-false, ltb-true}
-use Rattle.std.proofs.lemmas.Option.{slice_get_past, slice_get_read, slice_get-map}
+use Rattle.std.specs.Option.{option_map}
+use Rattle.std.proofs.lemmas.Option.{slice_get-map}
 use Rattle.hold_netlist.specs.declared.wire.Wire.{Wire}
 use Rattle.hold_netlist.specs.Names.{wire_names}
 use Rattle.hold_vparse.specs.declared.lines.NamedWire.{NamedWire}
 use Rattle.hold_vparse.specs.BitFaults.{reach}
-use Rattle.hold_vparse.specs.Flat.{net_wires, named_idents}
-use Rattle.hold_vparse.specs.Index.{place_of, at_place}
+use Rattle.hold_vparse.specs.inner.Flat.{net_wires, named_idents}
+use Rattle.hold_vparse.specs.inner.Index.{place_of, at_place}
 use Rattle.hold_vparse.specs.Nets.{names}
 use Rattle.hold_vparse.specs.Lines.{PortLine, line_of}
-use Rattle.hold_vparse.specs.Ranges.{net_ranges}
+use Rattle.hold_vparse.specs.inner.Ranges.{net_ranges}
 
 -- what stands in a place of a list whose items are seen otherwise
 pub at_place-map : {X Y : Type 0} (f : X → Y) (xs : List X) (place : Option ℕ) → at_place (map f xs) place ≡ option_map f (at_place xs place)
@@ -38,12 +36,6 @@ line_of-some name lines n h = line_of-place name lines ∙ ap (at_place lines) h
 
 pub line_of-none : (name : List ℕ) (lines : List PortLine) → place_of name (names (map (λ (l : PortLine). l.name) lines)) ≡ None → line_of name lines ≡ None
 line_of-none name lines h = line_of-place name lines ∙ ap (at_place lines) h
-
--- what `get` lends of a list whose items are seen otherwise
-pub got : {X Y : Type 0} (f : X → Y) (xs : List X) (n : ℕ) (r : Option (Bor X)) → is_some r ≡ ltb n (length xs) → IfSome r (λ x. x.now ≡ get_or xs n x.now)
-    → option_map (λ x. f x.now) r ≡ slice_get (map f xs) n
-got f xs n None h same = sym (slice_get-map f xs n ∙ ap (option_map f) (slice_get_past xs n (ltb-false n (length xs) (sym h))))
-got f xs n (Some x) h same = sym (slice_get-map f xs n ∙ ap (option_map f) (slice_get_read xs (length xs) n x.now refl (ltb-true n (length xs) (sym h)) same))
 
 -- the reach of a name by its first place among the wires
 reach-place : (name : List ℕ) (ws : List Wire) → reach ws name ≡ option_map (λ (w : Wire). w.range) (at_place ws (place_of name (wire_names ws)))

@@ -21,7 +21,7 @@ use Rattle.hold_vsyntax.specs.declared.tree.Module.{Module}
 use Rattle.hold_vparse.specs.Lines.{all, PortLine, WireLine, wire_line, bounds_of, header_names, header_lines, wires_of_item, wire_lines, instances_of_item, instances}
 use Rattle.hold_vparse.specs.Nets.{names, port_idents, declared_names, used_in_instance, uses}
 use Rattle.hold_vparse.specs.DoubleNames.{Role, ListsPort, DeclaresPort, GivesDirection, DeclaresWire, DeclaresInstance, UsesNet, Mention, mention, mentions_of_instance, mentions_of_item, mentions}
-use Rattle.hold_vparse.specs.Uses.{is_use, used}
+use Rattle.hold_vparse.specs.inner.Uses.{is_use, used}
 use Rattle.hold_vparse.proofs.UseLemmas.{used-mentions}
 use Rattle.hold_vparse.proofs.Clashes.{picked}
 

@@ -1,24 +1,14 @@
 -- Which names are among others, and what it says of a list that its names are told apart one by one.
-use Rattle.std.proofs.Common.{◌≡◌, ℕ, List, [], ◌∷◌, ◌++◌, Bool, true, false, ◌||◌, refl, sym, ◌∙◌, ap, bytes_eq, append_assoc}
-use Rattle.std.specs.Prelude.{Option, Some, None, if◌then◌else◌}
+use Rattle.std.proofs.Common.{◌≡◌, ℕ, List, [], ◌∷◌, ◌++◌, true, false, ◌||◌, refl, sym, ◌∙◌, ap, bytes_eq, append_assoc}
+use Rattle.std.specs.Prelude.{None}
 use Rattle.std.proofs.lemmas.Bool.{false_from_ne_true, or_parts, or_from, or_left, or_right}
-use Rattle.std.proofs.lemmas.Bool.Decides.{same_from_decides}
 use Rattle.std.proofs.lemmas.List.{append-nil}
 use Rattle.std.proofs.lemmas.List.Folds.{list_any-append}
 use Rattle.std.proofs.lemmas.Slice.Eq.{bytes_eq-Decides}
+use Rattle.hold_base.proofs.Bools.{cond-None}
+use Rattle.hold_base.proofs.Bytes.{bytes_eq-swap}
 use Rattle.hold_netlist.specs.Names.{is_among}
 use Rattle.hold_netlist.specs.Doubles.{first_repeat}
-
-pub bytes_eq_self : (n : List ℕ) → bytes_eq n n ≡ true
-bytes_eq_self n = (bytes_eq-Decides n n).1 refl
-
-pub bytes_eq-sym : (a b : List ℕ) → bytes_eq a b ≡ bytes_eq b a
-bytes_eq-sym a b =
-    let there = bytes_eq-Decides b a in
-    same_from_decides (bytes_eq a b) (bytes_eq b a) (bytes_eq-Decides a b) ((λ yes. sym (there.0 yes)), (λ e. there.1 (sym e)))
-
-pub bytes_eq-swap : (a b : List ℕ) → bytes_eq a b ≡ false → bytes_eq b a ≡ false
-bytes_eq-swap a b apart = bytes_eq-sym b a ∙ apart
 
 pub is_among-append : (n : List ℕ) (a b : List (List ℕ)) → is_among n (a ++ b) ≡ (is_among n a || is_among n b)
 is_among-append n a b = list_any-append (bytes_eq n) a b
@@ -46,10 +36,6 @@ abbrev pub Differ : List (List ℕ) → Type 0
 Differ [] = Unit {0}
 Differ (n ∷ ns) = (is_among n ns ≡ false) × Differ ns
 
-pub if_none : {X : Type 0} (b : Bool) (x : X) (rest : Option X) → (if b then Some x else rest) ≡ None → (b ≡ false) × (rest ≡ None)
-if_none true x rest h = absurd cc
-if_none false x rest h = (refl, h)
-
 -- a name that isn't among those that repeat nothing is new
 none_before : (n : List ℕ) (seen ns : List (List ℕ)) → NoneAmong ns (seen ++ n ∷ []) → NoneAmong ns seen × (is_among n ns ≡ false)
 none_before n seen [] h = (tt, refl)
@@ -63,7 +49,7 @@ none_before n seen (m ∷ ms) h =
 pub unrepeated : (seen ns : List (List ℕ)) → first_repeat seen ns ≡ None → NoneAmong ns seen × Differ ns
 unrepeated seen [] h = (tt, tt)
 unrepeated seen (n ∷ ns) h =
-    let new = if_none (is_among n seen) n (first_repeat (seen ++ n ∷ []) ns) h in
+    let new = cond-None (is_among n seen) n (first_repeat (seen ++ n ∷ []) ns) h in
     let rest = unrepeated (seen ++ n ∷ []) ns new.1 in
     let before = none_before n seen ns rest.0 in
     ((new.0, before.0), (before.1, rest.1))
@@ -72,6 +58,6 @@ unrepeated seen (n ∷ ns) h =
 pub unrepeated-append : (seen a b : List (List ℕ)) → first_repeat seen (a ++ b) ≡ None → (first_repeat seen a ≡ None) × (first_repeat (seen ++ a) b ≡ None)
 unrepeated-append seen [] b h = (refl, rw append-nil h)
 unrepeated-append seen (n ∷ a) b h =
-    let new = if_none (is_among n seen) n (first_repeat (seen ++ n ∷ []) (a ++ b)) h in
+    let new = cond-None (is_among n seen) n (first_repeat (seen ++ n ∷ []) (a ++ b)) h in
     let rest = unrepeated-append (seen ++ n ∷ []) a b new.1 in
     (rw new.0 rest.0, rw append_assoc at rest.1)

@@ -2,10 +2,11 @@
 --
 -- HasName i: the identifier's name is one. HaveNames is: so it is for each of them.
 -- NextHasName p: the name of a later port of the header is one.
-use Rattle.std.proofs.Common.{ℕ, List, [], ◌∷◌, ◌++◌, map, flat_map, filter, Bool, true, false, cond}
+use Rattle.std.proofs.Common.{ℕ, List, [], ◌∷◌, map}
 use Rattle.std.specs.Prelude.{Option}
 use Rattle.std.specs.List.{AllByRecursion}
-use Rattle.hold_netlist.specs.Names.{IsName}
+use Rattle.hold_base.proofs.Lists.{AllByRecursion-append_left, AllByRecursion-append_right, AllByRecursion-map, AllByRecursion-flat_map}
+use Rattle.hold_base.specs.NameBytes.{IsName}
 use Rattle.hold_netlist.specs.declared.wire.Direction.{Direction}
 use Rattle.hold_vsyntax.specs.declared.tree.Ident.{Ident}
 use Rattle.hold_vsyntax.specs.declared.tree.Several.{Several}
@@ -25,7 +26,6 @@ use Rattle.hold_vsyntax.specs.declared.tree.Module.{Module}
 use Rattle.hold_vsyntax.specs.Symbols.{Symbol}
 use Rattle.hold_vsyntax.specs.Grammar.{separated, several, listed, name_symbols, wire_symbols, range_symbols, port_symbols, next_port_symbols, header_symbols, assignment_symbols, tied_symbols, connection_symbols, instance_symbols, item_symbols, item_piece}
 use Rattle.hold_vsyntax.specs.Named.{AreNamed, IsNamedModule}
-use Rattle.hold_vsyntax.proofs.AllLemmas.{all-append}
 use Rattle.hold_vparse.specs.Lines.{all, PortLine, WireLine, bounds_of, wire_line, header_names, header_lines, next_lines, wires_of_item, wire_lines, instances_of_item, instances}
 use Rattle.hold_vparse.specs.Nets.{used_in_tied, used_in_instance, used_in_item, uses}
 
@@ -35,42 +35,18 @@ HasName i = IsName i.name
 abbrev pub HaveNames : List Ident → Type 0
 HaveNames is = AllByRecursion HasName is
 
-pub all-left : {A : Type 0} (P : A → Type 0) (xs ys : List A) → AllByRecursion P (xs ++ ys) → AllByRecursion P xs
-all-left P [] ys h = tt
-all-left P (x ∷ xs) ys h = (h.0, all-left P xs ys h.1)
-
-pub all-right : {A : Type 0} (P : A → Type 0) (xs ys : List A) → AllByRecursion P (xs ++ ys) → AllByRecursion P ys
-all-right P [] ys h = h
-all-right P (x ∷ xs) ys h = all-right P xs ys h.1
-
-pub all-map : {X Y : Type 0} (P : Y → Type 0) (f : X → Y) (xs : List X) → AllByRecursion (λ x. P (f x)) xs → AllByRecursion P (map f xs)
-all-map P f [] h = tt
-all-map P f (x ∷ xs) h = (h.0, all-map P f xs h.1)
-
-pub all-flat_map : {X Y : Type 0} (Q : X → Type 0) (P : Y → Type 0) (f : X → List Y) (gives : (x : X) → Q x → AllByRecursion P (f x)) → (xs : List X) → AllByRecursion Q xs → AllByRecursion P (flat_map f xs)
-all-flat_map Q P f gives [] h = tt
-all-flat_map Q P f gives (x ∷ xs) h = all-append P (f x) (flat_map f xs) (gives x h.0) (all-flat_map Q P f gives xs h.1)
-
-pub all-filter : {A : Type 0} (P : A → Type 0) (keeps : A → Bool) (xs : List A) → AllByRecursion P xs → AllByRecursion P (filter keeps xs)
-all-filter P keeps [] h = tt
-all-filter P keeps (x ∷ xs) h = by (keeps x) (all-filter P keeps xs h.1)
-  where
-    by : (b : Bool) → AllByRecursion P (filter keeps xs) → AllByRecursion P (cond b (x ∷ filter keeps xs) (filter keeps xs))
-    by true rest = (h.0, rest)
-    by false rest = rest
-
 -- parts between commas
 module _ {X : Type 0} (write : X → List Symbol) (P : X → Type 0) (each : (x : X) → AreNamed (write x) → P x) where
   separated-named : (xs : List X) → AreNamed (separated write xs) → AllByRecursion P xs
   separated-named [] h = tt
-  separated-named (x ∷ xs) h = (each x (all-left _ (write x) (separated write xs) h.1), separated-named xs (all-right _ (write x) (separated write xs) h.1))
+  separated-named (x ∷ xs) h = (each x (AllByRecursion-append_left _ (write x) (separated write xs) h.1), separated-named xs (AllByRecursion-append_right _ (write x) (separated write xs) h.1))
 
   several-named : (s : Several X) → AreNamed (several write s) → AllByRecursion P (all s)
-  several-named s h = (each s.first (all-left _ (write s.first) (separated write s.rest) h), separated-named s.rest (all-right _ (write s.first) (separated write s.rest) h))
+  several-named s h = (each s.first (AllByRecursion-append_left _ (write s.first) (separated write s.rest) h), separated-named s.rest (AllByRecursion-append_right _ (write s.first) (separated write s.rest) h))
 
   listed-named : (xs : List X) → AreNamed (listed write xs) → AllByRecursion P xs
   listed-named [] h = tt
-  listed-named (x ∷ xs) h = (each x (all-left _ (write x) (separated write xs) h), separated-named xs (all-right _ (write x) (separated write xs) h))
+  listed-named (x ∷ xs) h = (each x (AllByRecursion-append_left _ (write x) (separated write xs) h), separated-named xs (AllByRecursion-append_right _ (write x) (separated write xs) h))
 
 name-named : (i : Ident) → AreNamed (name_symbols i) → HasName i
 name-named i h = h.0
@@ -81,7 +57,7 @@ NextHasName (DeclaredNext p) = HasName p.name
 NextHasName (Alike name) = HasName name
 
 port-named : (p : HeaderPort) → AreNamed (port_symbols p) → HasName p.name
-port-named p h = (all-right _ (range_symbols p.range) (name_symbols p.name) (all-right _ (wire_symbols p.wire) _ h.1)).0
+port-named p h = (AllByRecursion-append_right _ (range_symbols p.range) (name_symbols p.name) (AllByRecursion-append_right _ (wire_symbols p.wire) _ h.1)).0
 
 next-named : (p : NextPort) → AreNamed (next_port_symbols p) → NextHasName p
 next-named (DeclaredNext p) h = port-named p h
@@ -99,17 +75,17 @@ pub record IsNamedHeader (h : Header) : Type 0 where
 header-named : (h : Header) → AreNamed (header_symbols h) → IsNamedHeader h
 header-named Bare h = record { listed_names = tt; declared_names = tt }
 header-named (Plain names) h = record {
-  listed_names = listed-named name_symbols HasName name-named names (all-left _ (listed name_symbols names) _ h.1);
+  listed_names = listed-named name_symbols HasName name-named names (AllByRecursion-append_left _ (listed name_symbols names) _ h.1);
   declared_names = tt;
 }
 header-named (Declared first rest) h =
-    let ports = all-right _ (port_symbols first) _ h.1 in
+    let ports = AllByRecursion-append_right _ (port_symbols first) _ h.1 in
     record {
       listed_names = tt;
       declared_names = (
-        port-named first (all-left _ (port_symbols first) _ h.1),
+        port-named first (AllByRecursion-append_left _ (port_symbols first) _ h.1),
         next_lines-named first.direction (bounds_of first.range) rest
-            (separated-named next_port_symbols NextHasName next-named rest (all-left _ (separated next_port_symbols rest) _ ports)),
+            (separated-named next_port_symbols NextHasName next-named rest (AllByRecursion-append_left _ (separated next_port_symbols rest) _ ports)),
       );
     }
 
@@ -125,7 +101,7 @@ tied-named (BitOf name index) h = (h.0, tt)
 tied-named (Constant value) h = tt
 
 connection-named : (c : Connection) → AreNamed (connection_symbols c) → IsNamedConnection c
-connection-named c h = record { pin_name = h.1.0; used_names = tied-named c.tied (all-left _ (tied_symbols c.tied) _ h.1.1.1) }
+connection-named c h = record { pin_name = h.1.0; used_names = tied-named c.tied (AllByRecursion-append_left _ (tied_symbols c.tied) _ h.1.1.1) }
 
 pub record IsNamedInstance (i : Instance) : Type 0 where
   pub own_name : HasName i.name
@@ -134,11 +110,11 @@ pub record IsNamedInstance (i : Instance) : Type 0 where
 instance-named : (i : Instance) → AreNamed (instance_symbols i) → IsNamedInstance i
 instance-named i h = record {
   own_name = h.0;
-  each = listed-named connection_symbols IsNamedConnection connection-named i.connections (all-left _ (listed connection_symbols i.connections) _ h.1.1);
+  each = listed-named connection_symbols IsNamedConnection connection-named i.connections (AllByRecursion-append_left _ (listed connection_symbols i.connections) _ h.1.1);
 }
 
 used-named : (i : Instance) → IsNamedInstance i → HaveNames (used_in_instance i)
-used-named i h = all-flat_map IsNamedConnection HasName (λ (c : Connection). used_in_tied c.tied) (λ c named. named.used_names) i.connections h.each
+used-named i h = AllByRecursion-flat_map IsNamedConnection HasName (λ (c : Connection). used_in_tied c.tied) (λ c named. named.used_names) i.connections h.each
 
 pub record IsNamedPlacement (i : Ident × Instance) : Type 0 where
   pub kind_name : HasName i.0
@@ -160,27 +136,27 @@ assignment-named a h = h.0
 item-named : (i : Item) → AreNamed (item_symbols i) → IsNamedItem i
 item-named (Ports p) h = record { wires = tt; used = tt; placed = tt }
 item-named (Wires w) h = record {
-  wires = all-map (λ (l : WireLine). HasName l.name) (wire_line (bounds_of w.range)) (all w.names)
-      (several-named name_symbols HasName name-named w.names (all-right _ (range_symbols w.range) (several name_symbols w.names) h.1));
+  wires = AllByRecursion-map (λ (l : WireLine). HasName l.name) (wire_line (bounds_of w.range)) (all w.names)
+      (several-named name_symbols HasName name-named w.names (AllByRecursion-append_right _ (range_symbols w.range) (several name_symbols w.names) h.1));
   used = tt;
   placed = tt;
 }
 item-named (Assignments s) h = record {
   wires = tt;
-  used = all-map HasName (λ (a : Assignment). a.left.net) (all s) (several-named assignment_symbols (λ (a : Assignment). HasName a.left.net) assignment-named s h.1);
+  used = AllByRecursion-map HasName (λ (a : Assignment). a.left.net) (all s) (several-named assignment_symbols (λ (a : Assignment). HasName a.left.net) assignment-named s h.1);
   placed = tt;
 }
 item-named (Instances i) h =
     let each = several-named instance_symbols IsNamedInstance instance-named i.list h.1 in
     record {
       wires = tt;
-      used = all-flat_map IsNamedInstance HasName used_in_instance used-named (all i.list) each;
+      used = AllByRecursion-flat_map IsNamedInstance HasName used_in_instance used-named (all i.list) each;
       placed = placements-named i.kind (all i.list) h.0 each;
     }
 
 items-named : (is : List Item) → AllByRecursion AreNamed (map item_piece is) → AllByRecursion IsNamedItem is
 items-named [] h = tt
-items-named (i ∷ is) h = (item-named i (all-left _ (item_symbols i) _ h.0), items-named is h.1)
+items-named (i ∷ is) h = (item-named i (AllByRecursion-append_left _ (item_symbols i) _ h.0), items-named is h.1)
 
 -- Each part of the module whose identifiers its netlist takes over.
 pub record IsNamedInParts (m : Module) : Type 0 where
@@ -192,11 +168,11 @@ pub record IsNamedInParts (m : Module) : Type 0 where
 
 pub named_in_parts : (m : Module) → IsNamedModule m → IsNamedInParts m
 named_in_parts m h =
-    let items = items-named m.items (all-left _ (map item_piece m.items) _ h.1) in
+    let items = items-named m.items (AllByRecursion-append_left _ (map item_piece m.items) _ h.1) in
     record {
       own_name = h.0.1.0;
-      in_header = header-named m.header (all-left _ (header_symbols m.header) _ h.0.1.1);
-      in_wires = all-flat_map IsNamedItem (λ (l : WireLine). HasName l.name) wires_of_item (λ i named. named.wires) m.items items;
-      in_uses = all-flat_map IsNamedItem HasName used_in_item (λ i named. named.used) m.items items;
-      in_instances = all-flat_map IsNamedItem IsNamedPlacement instances_of_item (λ i named. named.placed) m.items items;
+      in_header = header-named m.header (AllByRecursion-append_left _ (header_symbols m.header) _ h.0.1.1);
+      in_wires = AllByRecursion-flat_map IsNamedItem (λ (l : WireLine). HasName l.name) wires_of_item (λ i named. named.wires) m.items items;
+      in_uses = AllByRecursion-flat_map IsNamedItem HasName used_in_item (λ i named. named.used) m.items items;
+      in_instances = AllByRecursion-flat_map IsNamedItem IsNamedPlacement instances_of_item (λ i named. named.placed) m.items items;
     }

@@ -4,9 +4,11 @@ use Rattle.std.specs.Prelude.{None}
 use Rattle.std.proofs.lemmas.Bool.{or_parts, or_from}
 use Rattle.std.proofs.lemmas.List.{append-nil}
 use Rattle.std.proofs.lemmas.Slice.Eq.{bytes_eq-Decides}
+use Rattle.hold_base.proofs.Bools.{cond-None}
+use Rattle.hold_base.proofs.Bytes.{bytes_eq-swap}
 use Rattle.hold_netlist.specs.Names.{is_among}
 use Rattle.hold_netlist.specs.Doubles.{first_repeat}
-use Rattle.hold_vparse.proofs.NameLists.{NoneAmong, Differ, bytes_eq-swap, is_among-append, if_none}
+use Rattle.hold_vparse.proofs.NameLists.{NoneAmong, Differ, is_among-append}
 
 none_behind : (n : List ℕ) (seen ns : List (List ℕ)) → NoneAmong ns seen → is_among n ns ≡ false → NoneAmong ns (seen ++ n ∷ [])
 none_behind n seen [] h new = tt
@@ -22,7 +24,7 @@ none_repeats seen (n ∷ ns) h differ = let new = h.0 in rw new (none_repeats (s
 pub none_repeats-append : (seen a b : List (List ℕ)) → first_repeat seen a ≡ None → first_repeat (seen ++ a) b ≡ None → first_repeat seen (a ++ b) ≡ None
 none_repeats-append seen [] b h more = rw append-nil at more
 none_repeats-append seen (n ∷ a) b h more =
-    let new = if_none (is_among n seen) n (first_repeat (seen ++ n ∷ []) a) h in
+    let new = cond-None (is_among n seen) n (first_repeat (seen ++ n ∷ []) a) h in
     let here = new.0 in
     let same : (seen ++ n ∷ []) ++ a ≡ seen ++ (n ∷ a) = append_assoc seen (n ∷ []) a in
     rw here (none_repeats-append (seen ++ n ∷ []) a b new.1 (subst (λ before. first_repeat before b ≡ None) (sym same) more))

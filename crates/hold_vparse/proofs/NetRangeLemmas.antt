@@ -6,19 +6,19 @@ use Rattle.std.specs.Option.{option_map}
 use Rattle.std.proofs.lemmas.List.{map-append, append-nil, length-map, length-append, length-replicate}
 use Rattle.std.proofs.Math.ListN.{drop_of_length-le}
 use Rattle.std.proofs.lemmas.Option.{slice_get-map, slice_get_read}
+use Rattle.hold_base.proofs.Lists.{drop-here}
 use Rattle.hold_netlist.specs.Names.{is_among}
 use Rattle.hold_netlist.specs.declared.wire.Wire.{Wire}
 use Rattle.hold_vsyntax.specs.declared.tree.Ident.{Ident}
 use Rattle.hold_vsyntax.specs.declared.tree.Module.{Module}
 use Rattle.hold_vparse.specs.declared.lines.NamedWire.{NamedWire}
-use Rattle.hold_vparse.specs.Bounds.{Hold, Grows}
-use Rattle.hold_vparse.specs.Flat.{seen_range, seen_wire, seen_wires}
-use Rattle.hold_vparse.specs.Index.{at_place, place_of}
+use Rattle.hold_vparse.specs.inner.Bounds.{Hold, Grows}
+use Rattle.hold_vparse.specs.inner.Flat.{seen_range, seen_wire, seen_wires}
+use Rattle.hold_vparse.specs.inner.Index.{at_place, place_of}
 use Rattle.hold_vparse.specs.Lines.{PortLine, WireLine, line_of, as_declared, ports_of, header_lines, body_lines, wire_lines}
 use Rattle.hold_vparse.specs.Nets.{names, nets, port_idents, first_uses, declared_names, uses, other_wires, implicit_wires, port_wires, wire}
-use Rattle.hold_vparse.specs.Ranges.{RangeLists, range_lists, with_nets, line_range, port_ranges, wire_ranges, net_ranges, other_ranges, ranges_of}
+use Rattle.hold_vparse.specs.inner.Ranges.{RangeLists, range_lists, with_nets, line_range, port_ranges, wire_ranges, net_ranges, other_ranges, ranges_of}
 use Rattle.hold_vparse.proofs.LineLemmas.{line_of-some, line_of-none}
-use Rattle.hold_vparse.proofs.NetlistLemmas.{drop_here}
 use Rattle.hold_vparse.proofs.PlaceLemmas.{Hold-grown}
 
 -- the lines' ranges by their places in the whole table
@@ -74,13 +74,13 @@ wire_range ranges lines i w are within is =
 pub other_ranges-in : (headed : List (List ℕ)) (lines : List NamedWire) (i : ℕ) (w : NamedWire) → i < length lines → w ≡ get_or lines i w → is_among w.name.now.name headed ≡ true
     → other_ranges headed (seen_wires (drop i lines)) ≡ [] ++ other_ranges headed (seen_wires (drop (i + 1) lines))
 other_ranges-in headed lines i w within is there =
-    ap (λ ls. other_ranges headed (seen_wires ls)) (drop_here lines i w within is)
+    ap (λ ls. other_ranges headed (seen_wires ls)) (drop-here lines i w within is)
     ∙ ap (λ (b : Bool). wire_ranges (cond (not b) (seen_wire w ∷ filter (λ (l : WireLine). not (is_among l.name.name headed)) (seen_wires (drop (i + 1) lines))) (filter (λ (l : WireLine). not (is_among l.name.name headed)) (seen_wires (drop (i + 1) lines))))) there
 
 pub other_ranges-out : (headed : List (List ℕ)) (lines : List NamedWire) (i : ℕ) (w : NamedWire) → i < length lines → w ≡ get_or lines i w → is_among w.name.now.name headed ≡ false
     → other_ranges headed (seen_wires (drop i lines)) ≡ (seen_range w.range ∷ []) ++ other_ranges headed (seen_wires (drop (i + 1) lines))
 other_ranges-out headed lines i w within is apart =
-    ap (λ ls. other_ranges headed (seen_wires ls)) (drop_here lines i w within is)
+    ap (λ ls. other_ranges headed (seen_wires ls)) (drop-here lines i w within is)
     ∙ ap (λ (b : Bool). wire_ranges (cond (not b) (seen_wire w ∷ filter (λ (l : WireLine). not (is_among l.name.name headed)) (seen_wires (drop (i + 1) lines))) (filter (λ (l : WireLine). not (is_among l.name.name headed)) (seen_wires (drop (i + 1) lines))))) apart
 
 -- the ranges of a module's nets: those of its ports, of its other wires, and none

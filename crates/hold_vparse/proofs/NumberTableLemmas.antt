@@ -6,14 +6,16 @@ use Rattle.std.specs.List.{AllByRecursion}
 use Rattle.std.proofs.lemmas.List.{map-append, length-map}
 use Rattle.std.proofs.lemmas.Option.{slice_get-map}
 use Rattle.std.proofs.lemmas.Slice.Eq.{bytes_eq-Decides}
-use Rattle.hold_netlist.specs.NameTable.{names_of, number_of as named_number}
-use Rattle.hold_vsyntax.specs.Number.{number_of, IsPlain}
-use Rattle.hold_vsyntax.proofs.AllLemmas.{all-append}
+use Rattle.hold_base.specs.inner.Lists.{OneEach}
+use Rattle.hold_base.proofs.Lists.{slice_get-seam, slice_get-push, AllByRecursion-append}
+use Rattle.hold_netlist.specs.inner.NameTable.{names_of}
+use Rattle.hold_netlist.specs.NameTable.{number_of as named_number}
+use Rattle.hold_base.specs.Digits.{number_of}
+use Rattle.hold_vsyntax.specs.Number.{IsPlain}
 use Rattle.hold_vsyntax.proofs.PlainLemmas.{plain_same}
-use Rattle.hold_vparse.specs.Index.{place_of, IsIndex}
-use Rattle.hold_vparse.specs.NumberTable.{OneEach, numbers_of, IsClassed}
+use Rattle.hold_vparse.specs.inner.Index.{place_of, IsIndex}
+use Rattle.hold_vparse.specs.inner.NumberTable.{numbers_of, IsClassed}
 use Rattle.hold_vparse.proofs.IndexLemmas.{index_more}
-use Rattle.hold_vparse.proofs.SliceGetLemmas.{slice_get-seam, slice_get-push}
 
 -- at the place of a name stands that name
 place_of-get : (name : List ℕ) (names : List (List ℕ)) (k : ℕ) → place_of name names ≡ Some k → slice_get names k ≡ Some name
@@ -106,7 +108,7 @@ classed_more pairs many name h plain none =
     let told : true ≡ is_none (named_number name pairs) = rw none refl in
     record {
       count = omega (arith, h.count, length-append pairs ((name, many) ∷ []));
-      plain = subst (AllByRecursion IsPlain) (sym (names_of-more pairs name many)) (all-append IsPlain (names_of pairs) (name ∷ []) h.plain (plain, tt));
+      plain = subst (AllByRecursion IsPlain) (sym (names_of-more pairs name many)) (AllByRecursion-append IsPlain (names_of pairs) (name ∷ []) h.plain (plain, tt));
       places = subst (IsIndex (pairs ++ (name, many) ∷ [])) (sym (names_of-more pairs name many)) (index_more pairs (pairs ++ (name, many) ∷ []) (names_of pairs) name true h.places told put);
       one_each = subst OneEach (sym (numbers_of-more pairs name many)) (OneEach-more (numbers_of pairs) (number_of name) h.one_each (number_is_new pairs many name h plain none));
     }

@@ -1,23 +1,14 @@
 -- The lists of a module from the lists that the passes make.
-use Rattle.std.proofs.Common.{◌≡◌, ℕ, List, ◌++◌, refl, sym, ap, ◌∙◌, map, append_assoc}
-use Rattle.std.specs.Prelude.{Result, Ok, Err, IfOk}
+use Rattle.std.proofs.Common.{◌≡◌, ℕ, List, ◌++◌, sym, ap, ◌∙◌, map, append_assoc}
 use Rattle.std.proofs.lemmas.List.{map-append}
 use Rattle.hold_netlist.specs.declared.wire.Wire.{Wire}
 use Rattle.hold_vsyntax.specs.declared.tree.Ident.{Ident}
-use Rattle.hold_vsyntax.specs.declared.tree.Header.{Header}
-use Rattle.hold_vsyntax.specs.declared.tree.Header.TheVariants.{Bare, Plain, Declared}
 use Rattle.hold_vsyntax.specs.declared.tree.Module.{Module}
 use Rattle.hold_vparse.specs.DoubleNames.{Mention, mentions}
-use Rattle.hold_vparse.specs.Lines.{PortLine, WireLine, header_names, header_lines, body_lines, ports_in, ports_of, wire_lines}
+use Rattle.hold_vparse.specs.Lines.{PortLine, WireLine, header_names, header_lines, body_lines, ports_of, wire_lines}
 use Rattle.hold_vparse.specs.Nets.{names, port_idents, declared_names, nets}
-use Rattle.hold_vparse.specs.Uses.{used, wires_of}
+use Rattle.hold_vparse.specs.inner.Uses.{used, wires_of}
 use Rattle.hold_vparse.proofs.UseLemmas.{used-mentions}
-
--- the ports of a plain list have all their lines in the body
-pub ports_in-header : (h : Header) (lines body : List PortLine) → lines ≡ header_lines h ++ body → ports_in h lines ≡ ports_in h body
-ports_in-header Bare lines body e = refl
-ports_in-header (Plain names) lines body e = ap (ports_in (Plain names)) e
-ports_in-header (Declared first rest) lines body e = refl
 
 names-append : (xs ys : List Ident) → names (xs ++ ys) ≡ names xs ++ names ys
 names-append xs ys = map-append (λ (i : Ident). i.name) xs ys
@@ -45,7 +36,3 @@ nets-lists m ports headed lines declared ms wires p h l d u e =
     ∙ ap (λ (ws : List WireLine). wires_of (ports_of m) (names (port_idents m)) ws declared (used ms)) l
     ∙ ap (λ (ns : List (List ℕ)). wires_of (ports_of m) (names (port_idents m)) (wire_lines m.items) ns (used ms)) d
     ∙ ap (λ (is : List Ident). wires_of (ports_of m) (names (port_idents m)) (wire_lines m.items) (declared_names m) is) (ap used u ∙ used-mentions m)
-
-pub if_ok : {X E : Type 0} {P Q : X → Type 0} (r : Result X E) → IfOk r P → ((x : X) → P x → Q x) → IfOk r Q
-if_ok (Ok x) h f = f x h
-if_ok (Err e) h f = h

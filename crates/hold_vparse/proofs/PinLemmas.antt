@@ -4,7 +4,8 @@ use Rattle.std.specs.Prelude.{◌||◌}
 use Rattle.std.proofs.lemmas.Bool.{cases_Bool}
 use Rattle.std.proofs.lemmas.Slice.Eq.{bytes_eq-Decides}
 use Rattle.hold_netlist.specs.Names.{is_among}
-use Rattle.hold_netlist.specs.NameTable.{names_of, number_of}
+use Rattle.hold_netlist.specs.inner.NameTable.{names_of}
+use Rattle.hold_netlist.specs.NameTable.{number_of}
 use Rattle.hold_netlist.proofs.NameTableLemmas.{is_none_number}
 use Rattle.hold_vsyntax.specs.declared.tree.Connection.{Connection}
 use Rattle.hold_vsyntax.specs.declared.tree.Ident.{Ident}

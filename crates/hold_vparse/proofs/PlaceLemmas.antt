@@ -5,6 +5,7 @@ use Rattle.std.specs.Option.{option_copied}
 use Rattle.std.specs.Borrow.{Bor}
 use Rattle.std.proofs.lemmas.List.{map-append, append-nil}
 use Rattle.std.proofs.Math.ListN.{drop_of_length-le}
+use Rattle.hold_base.proofs.Lists.{drop-here}
 use Rattle.hold_netlist.specs.declared.wire.Direction.{Direction}
 use Rattle.hold_vsyntax.specs.declared.tree.BodyPorts.{BodyPorts}
 use Rattle.hold_vsyntax.specs.declared.tree.BodyWires.{BodyWires}
@@ -16,12 +17,11 @@ use Rattle.hold_vsyntax.specs.declared.tree.Item.TheVariants.{Ports, Wires}
 use Rattle.hold_vsyntax.specs.declared.tree.NextPort.{NextPort}
 use Rattle.hold_vsyntax.specs.declared.tree.NextPort.TheVariants.{Declared, Alike}
 use Rattle.hold_vsyntax.specs.declared.tree.Range.{Range}
-use Rattle.hold_vparse.specs.Bounds.{Hold, Holds, Grows}
-use Rattle.hold_vparse.specs.Flat.{seen_range}
-use Rattle.hold_vparse.specs.Index.{at_place}
+use Rattle.hold_vparse.specs.inner.Bounds.{Hold, Holds, Grows}
+use Rattle.hold_vparse.specs.inner.Flat.{seen_range}
+use Rattle.hold_vparse.specs.inner.Index.{at_place}
 use Rattle.hold_vparse.specs.Lines.{PortLine, WireLine, all, header_line, header_lines, next_lines, bounds_of, port_line, wire_line, lines_of_item, wires_of_item, body_lines, wire_lines}
-use Rattle.hold_vparse.specs.Ranges.{port_ranges, wire_ranges, next_range}
-use Rattle.hold_vparse.proofs.NetlistLemmas.{drop_here}
+use Rattle.hold_vparse.specs.inner.Ranges.{port_ranges, wire_ranges, next_range}
 
 behind : (table longer xs more : List (ℕ × ℕ)) → longer ≡ table ++ xs → longer ++ more ≡ table ++ (xs ++ more)
 behind table longer xs more e = ap (λ (t : List (ℕ × ℕ)). t ++ more) e ∙ append_assoc table xs more
@@ -43,7 +43,7 @@ module _ {X : Type 0} (ranges : List X → List (Option (ℕ × ℕ))) (here : X
       → (more : List (ℕ × ℕ)) → map (at_place (longer ++ more)) list' ++ ranges (drop (i + 1) xs) ≡ map (at_place (longer ++ more)) first ++ whole
   places_step table longer first list list' xs i x whole within is g put so_far more =
       let far : longer ++ more ≡ table ++ (g.more ++ more) = behind table longer g.more more g.behind in
-      let rest : here x ++ ranges (drop (i + 1) xs) ≡ ranges (drop i xs) = sym (ap ranges (drop_here xs i x within is) ∙ cons x (drop (i + 1) xs)) in
+      let rest : here x ++ ranges (drop (i + 1) xs) ≡ ranges (drop i xs) = sym (ap ranges (drop-here xs i x within is) ∙ cons x (drop (i + 1) xs)) in
       ap (λ l. l ++ ranges (drop (i + 1) xs)) (put more) ∙ append_assoc (map (at_place (longer ++ more)) list) (here x) (ranges (drop (i + 1) xs))
       ∙ ap (λ l. map (at_place (longer ++ more)) list ++ l) rest
       ∙ ap (λ (t : List (ℕ × ℕ)). map (at_place t) list ++ ranges (drop i xs)) far ∙ so_far (g.more ++ more)
@@ -124,7 +124,7 @@ header_step table longer list list' place place' d xs i p whole within is g next
     let ps = drop (i + 1) xs in
     let far : t ≡ table ++ (g.more ++ more) = behind table longer g.more more g.behind in
     let rest : at_place t place' ∷ port_ranges (next_lines d (at_place t place') ps) ≡ port_ranges (next_lines d (at_place t place) (drop i xs)) =
-    ap (λ r. r ∷ port_ranges (next_lines d r ps)) (next more) ∙ sym (ap (λ qs. port_ranges (next_lines d (at_place t place) qs)) (drop_here xs i p within is) ∙ next_ranges-cons d (at_place t place) p ps) in
+    ap (λ r. r ∷ port_ranges (next_lines d r ps)) (next more) ∙ sym (ap (λ qs. port_ranges (next_lines d (at_place t place) qs)) (drop-here xs i p within is) ∙ next_ranges-cons d (at_place t place) p ps) in
     ap (λ l. l ++ port_ranges (next_lines d (at_place t place') ps)) (ap (map (at_place t)) put ∙ map-append (at_place t) list (place' ∷ []))
     ∙ append_assoc (map (at_place t) list) (at_place t place' ∷ []) (port_ranges (next_lines d (at_place t place') ps))
     ∙ ap (λ l. map (at_place t) list ++ l) rest

@@ -6,24 +6,17 @@ use Rattle.std.specs.Borrow.{Bor}
 use Rattle.std.proofs.lemmas.Bool.{cases_Bool}
 use Rattle.std.proofs.lemmas.List.{map-append, length-map}
 use Rattle.std.proofs.lemmas.Option.{slice_get-map}
+use Rattle.hold_base.specs.inner.Lists.{OneEach}
+use Rattle.hold_base.proofs.Lists.{slice_get-push}
 use Rattle.hold_netlist.specs.Bits.{width_of_range}
 use Rattle.hold_vparse.specs.declared.measured.Classes.{Classes}
 use Rattle.hold_vparse.specs.declared.measured.Measured.{Measured}
-use Rattle.hold_vparse.specs.Bounds.{distance_of}
-use Rattle.hold_vparse.specs.Index.{at_place}
-use Rattle.hold_vparse.specs.Measured.{AreClasses, HasClasses, HaveClasses, Keeps, measured_bounds}
-use Rattle.hold_vparse.specs.NumberTable.{OneEach, MayAdd}
+use Rattle.hold_vparse.specs.inner.Bounds.{distance_of}
+use Rattle.hold_vparse.specs.inner.Index.{at_place}
+use Rattle.hold_vparse.specs.inner.Measured.{AreClasses, HasClasses, HaveClasses, Keeps, measured_bounds}
 use Rattle.hold_vparse.specs.PortFaults.{same_range}
-use Rattle.hold_vparse.specs.Ranges.{RangeLists, range_lists, with_nets, line_range}
+use Rattle.hold_vparse.specs.inner.Ranges.{RangeLists, range_lists, with_nets, line_range}
 use Rattle.hold_vparse.proofs.LineLemmas.{at_place-map}
-use Rattle.hold_vparse.proofs.SliceGetLemmas.{slice_get-append, slice_get-push}
-
-pub keeps_same : (old new : List ℕ) → new ≡ old → Keeps old new
-keeps_same old new e = record { each = λ k n h. ap (λ (ns : List ℕ). slice_get ns k) e ∙ h }
-
-pub keeps_added : (old new : List ℕ) (n : ℕ) → MayAdd old n new → Keeps old new
-keeps_added old new n (inl e) = keeps_same old new e
-keeps_added old new n (inr e) = record { each = λ k m h. ap (λ (ns : List ℕ). slice_get ns k) e ∙ slice_get-append old (n ∷ []) k m h }
 
 pub HaveClasses-kept : (old new : List ℕ) (list : List Measured) → Keeps old new → HaveClasses old list → HaveClasses new list
 HaveClasses-kept old new list kept h = record {

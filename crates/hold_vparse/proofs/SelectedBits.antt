@@ -2,11 +2,13 @@
 --
 -- AreBits bits ns: each of the numbers is one of so many bits.
 -- IsTiedSource bits s: the source is one, and not Empty.
-use Rattle.std.proofs.Common.{◌≡◌, ℕ, zero, suc, ◌+◌, ◌<◌, ◌≤◌, List, [], ◌∷◌, map, Bool, true, false, cond, not, min, max, refl, arith}
+use Rattle.std.proofs.Common.{◌≡◌, ℕ, zero, suc, ◌+◌, ◌<◌, ◌≤◌, List, [], ◌∷◌, map, Bool, true, false, cond, min, max, refl, arith}
 use Rattle.std.specs.Prelude.{Option, Some, None, ◌≢◌, ◌&&◌, ◌||◌, nat_le}
 use Rattle.std.specs.List.{AllByRecursion, range_with_len}
-use Rattle.std.proofs.lemmas.Bool.{or_parts}
+use Rattle.std.proofs.lemmas.Bool.{or_parts, and_parts}
 use Rattle.std.proofs.lemmas.Bool.Decides.{nat_tests}
+use Rattle.hold_base.proofs.Bools.{not-false}
+use Rattle.hold_base.proofs.Lists.{append-nil_left, append-nil_right}
 use Rattle.hold_netlist.specs.Bits.{width_of_range, bits_of}
 use Rattle.hold_netlist.specs.WellFormed.{IsSource, IsWrittenAssign}
 use Rattle.hold_netlist.specs.declared.wire.Wire.{Wire}
@@ -22,7 +24,6 @@ use Rattle.hold_vsyntax.specs.declared.tree.Ident.{Ident}
 use Rattle.hold_vparse.specs.Lines.{range_bounds}
 use Rattle.hold_vparse.specs.BitFaults.{Reach, reach, is_within, runs_along, has_bits, is_missing, is_missing_part, part_width, right_width, differ, misfit_left, misfit_right, misfit_assignment}
 use Rattle.hold_vparse.specs.Declares.{first_bit, place_in, selected_bits, part_bits, net_bit, constant, sources, tied_bits, assigned}
-use Rattle.hold_vparse.proofs.NetlistLemmas.{nil_left, nil_right}
 use Rattle.hold_vparse.proofs.LayoutLemmas.{first_bit-reach}
 
 abbrev pub AreBits : ℕ → List ℕ → Type 0
@@ -35,18 +36,10 @@ row_within : (bits first n : ℕ) → first + n ≤ bits → AreBits bits (range
 row_within bits first zero h = tt
 row_within bits first (suc n) h = (omega arith, row_within bits (first + 1) n (omega arith))
 
-present : (a : Bool) → not a ≡ false → a ≡ true
-present true h = refl
-present false h = cc
-
-both : (a b : Bool) → (a && b) ≡ true → (a ≡ true) × (b ≡ true)
-both true b h = (refl, h)
-both false b h = cc
-
 -- an index between the bounds stands within the range
 pub index-place : (r : ℕ × ℕ) (i : ℕ) → is_within r i ≡ true → place_in (Some (Some r)) i < width_of_range (Some r)
 index-place r i h =
-    let inside = both (nat_le (min r.0 r.1) i) (nat_le i (max r.0 r.1)) h in
+    let inside = and_parts (nat_le (min r.0 r.1) i) (nat_le i (max r.0 r.1)) h in
     let low = inside.0 in
     let high = inside.1 in
     grind (arith, nat_tests)
@@ -54,10 +47,10 @@ index-place r i h =
 -- bounds that run along a range and lie in it stand within it
 bounds-place : (r s : ℕ × ℕ) → has_bits r s ≡ true → place_in (Some (Some r)) s.0 + width_of_range (Some s) ≤ width_of_range (Some r)
 bounds-place r s h =
-    let whole = both (is_within r s.0 && is_within r s.1) (runs_along r s) h in
-    let ends = both (is_within r s.0) (is_within r s.1) whole.0 in
-    let left = both (nat_le (min r.0 r.1) s.0) (nat_le s.0 (max r.0 r.1)) ends.0 in
-    let right = both (nat_le (min r.0 r.1) s.1) (nat_le s.1 (max r.0 r.1)) ends.1 in
+    let whole = and_parts (is_within r s.0 && is_within r s.1) (runs_along r s) h in
+    let ends = and_parts (is_within r s.0) (is_within r s.1) whole.0 in
+    let left = and_parts (nat_le (min r.0 r.1) s.0) (nat_le s.0 (max r.0 r.1)) ends.0 in
+    let right = and_parts (nat_le (min r.0 r.1) s.1) (nat_le s.1 (max r.0 r.1)) ends.1 in
     by (nat_le r.1 r.0) refl left.0 left.1 right.0 right.1 whole.1
   where
     by : (falls : Bool) → nat_le r.1 r.0 ≡ falls → nat_le (min r.0 r.1) s.0 ≡ true → nat_le s.0 (max r.0 r.1) ≡ true → nat_le (min r.0 r.1) s.1 ≡ true → nat_le s.1 (max r.0 r.1) ≡ true
@@ -71,10 +64,10 @@ selected_within bits first None s net h = cc
 selected_within bits first (Some r) Whole net h = row_within bits first (width_of_range r) (net r refl)
 selected_within bits first (Some None) (Bit i) net h = cc
 selected_within bits first (Some None) (Bits s) net h = cc
-selected_within bits first (Some (Some r)) (Bit i) net h = (omega (arith, net (Some r) refl, index-place r i (present (is_within r i) h)), tt)
+selected_within bits first (Some (Some r)) (Bit i) net h = (omega (arith, net (Some r) refl, index-place r i (not-false (is_within r i) h)), tt)
 selected_within bits first (Some (Some r)) (Bits s) net h =
     row_within bits (first + place_in (Some (Some r)) s.left) (width_of_range (Some (range_bounds s)))
-    (omega (arith, net (Some r) refl, bounds-place r (range_bounds s) (present (has_bits r (range_bounds s)) h)))
+    (omega (arith, net (Some r) refl, bounds-place r (range_bounds s) (not-false (has_bits r (range_bounds s)) h)))
 
 pub part_within : (wires : List Wire) (p : Part) → is_missing_part wires p ≡ false → AreBits (bits_of wires) (part_bits wires p)
 part_within wires p h = selected_within (bits_of wires) (first_bit wires p.net.name) (reach wires p.net.name) p.selected (λ r e. first_bit-reach p.net.name wires r e) h
@@ -118,10 +111,10 @@ left-there : (wires : List Wire) (a : Assignment) → misfit_assignment wires a 
 left-there wires a h =
     let missing = is_missing_part wires a.left in
     let unlike = differ (part_width wires a.left) (right_width wires a.right) in
-    (or_parts missing unlike (unless_listed (missing || unlike) a.left.net (nil_left (misfit_left wires a) (misfit_right wires a.right) h))).0
+    (or_parts missing unlike (unless_listed (missing || unlike) a.left.net (append-nil_left (misfit_left wires a) (misfit_right wires a.right) h))).0
 
 -- an assignment without a fault gives assignments of bits that are there
 pub assigned_written : (wires : List Wire) (a : Assignment) → misfit_assignment wires a ≡ [] → AllByRecursion (IsWrittenAssign (bits_of wires)) (assigned wires a)
 assigned_written wires a h =
     pairs_written (bits_of wires) (part_bits wires a.left) (sources wires a.right) (part_within wires a.left (left-there wires a h))
-    (right_within wires a.right (nil_right (misfit_left wires a) (misfit_right wires a.right) h))
+    (right_within wires a.right (append-nil_right (misfit_left wires a) (misfit_right wires a.right) h))

@@ -5,7 +5,7 @@ use Rattle.std.specs.Option.{option_map}
 use Rattle.std.proofs.lemmas.Bool.{ltb-true, ltb-false, lt-ltb, le-ltb}
 use Rattle.hold_vsyntax.specs.declared.tree.Ident.{Ident}
 use Rattle.hold_vparse.specs.Soonest.{soonest}
-use Rattle.hold_vparse.specs.Found.{merged}
+use Rattle.hold_vparse.specs.inner.Found.{merged}
 
 first-assoc : (i j k : Ident) → cond (nat_lt (cond (nat_lt k.at j.at) k j).at i.at) (cond (nat_lt k.at j.at) k j) i ≡ cond (nat_lt k.at (cond (nat_lt j.at i.at) j i).at) k (cond (nat_lt j.at i.at) j i)
 first-assoc i j k = go (nat_lt k.at j.at) (nat_lt j.at i.at) refl refl
@@ -25,10 +25,6 @@ merged-assoc None b c = refl
 merged-assoc (Some i) None c = refl
 merged-assoc (Some i) (Some j) None = refl
 merged-assoc (Some i) (Some j) (Some k) = ap Some (sym (first-assoc i j k))
-
-merged-none : (a : Option Ident) → merged a None ≡ a
-merged-none None = refl
-merged-none (Some i) = refl
 
 pub soonest-append : (xs ys : List Ident) → soonest (xs ++ ys) ≡ merged (soonest xs) (soonest ys)
 soonest-append [] ys = refl

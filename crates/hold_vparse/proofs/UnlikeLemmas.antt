@@ -3,11 +3,11 @@ use Rattle.std.proofs.Common.{◌≡◌, ℕ, List, [], ◌∷◌, Bool, true, f
 use Rattle.std.specs.Prelude.{Option, None, Some, slice_get, unwrap_or}
 use Rattle.std.specs.Option.{option_map}
 use Rattle.std.proofs.lemmas.Option.{slice_get-map}
-use Rattle.hold_vparse.specs.Index.{place_of}
+use Rattle.hold_vparse.specs.inner.Index.{place_of}
 use Rattle.hold_vparse.specs.Lines.{PortLine, WireLine, line_of}
 use Rattle.hold_vparse.specs.Nets.{names}
 use Rattle.hold_vparse.specs.PortFaults.{same_range, later, unlike_line}
-use Rattle.hold_vparse.specs.Ranges.{line_range, port_ranges}
+use Rattle.hold_vparse.specs.inner.Ranges.{line_range, port_ranges}
 use Rattle.hold_vparse.specs.Soonest.{soonest}
 use Rattle.hold_vparse.proofs.LineLemmas.{line_of-some, line_of-none}
 

@@ -2,7 +2,8 @@
 use Rattle.std.proofs.Common.{◌≡◌, ℕ, List, [], ◌∷◌, ◌++◌, Bool, true, false, cond, refl, sym, ap, ◌∙◌, map, not, is_none, append_assoc}
 use Rattle.std.specs.Prelude.{flat_map, ◌&&◌, ◌||◌, None}
 use Rattle.hold_netlist.specs.declared.wire.Wire.{Wire}
-use Rattle.hold_netlist.specs.NameTable.{names_of, number_of}
+use Rattle.hold_netlist.specs.inner.NameTable.{names_of}
+use Rattle.hold_netlist.specs.NameTable.{number_of}
 use Rattle.hold_netlist.proofs.NameTableLemmas.{is_none_number}
 use Rattle.hold_netlist.specs.Names.{is_among}
 use Rattle.hold_vsyntax.specs.declared.tree.Ident.{Ident}
@@ -14,7 +15,7 @@ use Rattle.hold_vsyntax.specs.declared.tree.Module.{Module}
 use Rattle.hold_vparse.specs.Lines.{PortLine, all, header_names, header_lines}
 use Rattle.hold_vparse.specs.Nets.{used_in_instance, used_in_item, uses, first_uses, wire}
 use Rattle.hold_vparse.specs.DoubleNames.{Mention, mention, Role, ListsPort, DeclaresPort, GivesDirection, DeclaresWire, UsesNet, mentions, mentions_of_item, mentions_of_instance}
-use Rattle.hold_vparse.specs.Uses.{is_use, used}
+use Rattle.hold_vparse.specs.inner.Uses.{is_use, used}
 use Rattle.hold_vparse.proofs.NameLists.{is_among-append}
 
 used-append : (ms ns : List Mention) → used (ms ++ ns) ≡ used ms ++ used ns
@@ -104,9 +105,3 @@ pub new_use : (name : List ℕ) (declared : List (List ℕ)) (pairs : List (List
 new_use name declared pairs u has h told missing =
     is_none_number name pairs ∙ ap (λ (a : Bool). not (a || is_among name (names_of pairs))) (sym missing ∙ told) ∙ ap not (sym (is_among-append name declared (names_of pairs)))
     ∙ ap (λ (b : Bool). b && not (is_among name (declared ++ names_of pairs))) (sym h)
-
-pub chosen_true : {X : Type 0} (b : Bool) (z x y : X) → b ≡ true → z ≡ x → z ≡ cond b x y
-chosen_true b z x y h e = e ∙ ap (λ (c : Bool). cond c x y) (sym h)
-
-pub chosen_false : {X : Type 0} (b : Bool) (z x y : X) → b ≡ false → z ≡ y → z ≡ cond b x y
-chosen_false b z x y h e = e ∙ ap (λ (c : Bool). cond c x y) (sym h)

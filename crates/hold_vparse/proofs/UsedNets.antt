@@ -5,6 +5,8 @@ use Rattle.std.specs.List.{AllByRecursion}
 use Rattle.std.proofs.lemmas.Bool.{or_right}
 use Rattle.std.proofs.lemmas.List.{append-nil, map-append}
 use Rattle.std.proofs.lemmas.Slice.Eq.{bytes_eq-Decides}
+use Rattle.hold_base.proofs.Bytes.{bytes_eq-self}
+use Rattle.hold_base.proofs.Lists.{AllByRecursion-weaken}
 use Rattle.hold_netlist.specs.Names.{wire_names, is_among}
 use Rattle.hold_netlist.specs.declared.wire.Wire.{Wire}
 use Rattle.hold_vsyntax.specs.declared.tree.Ident.{Ident}
@@ -15,10 +17,8 @@ use Rattle.hold_vparse.specs.Lines.{PortLine, WireLine, header_names, header_lin
 use Rattle.hold_vparse.specs.Nets.{names, port_idents, declared_names, uses, first_uses, wire, port_wires, other_wires, implicit_wires, nets}
 use Rattle.hold_vparse.specs.PortFaults.{unlisted}
 use Rattle.hold_vparse.specs.BitFaults.{reach}
-use Rattle.hold_vparse.proofs.NameLists.{bytes_eq_self, is_among-append, is_among_left, is_among_right}
-use Rattle.hold_vparse.proofs.PortLines.{all_weaken}
-use Rattle.hold_vparse.proofs.Placed.{IsAmongWires}
-use Rattle.hold_vparse.proofs.DeclaredNets.{wire_of_port, wire_of_line, names_of_ports}
+use Rattle.hold_vparse.proofs.DeclaredWires.{IsAmongWires, wire_of_port, wire_of_line, names_of_ports}
+use Rattle.hold_vparse.proofs.NameLists.{is_among-append, is_among_left, is_among_right}
 
 -- a name among two lists is among either
 either_among : {Z : Type 0} (n : List ℕ) (a b : List (List ℕ)) → is_among n (a ++ b) ≡ true → (is_among n a ≡ true → Z) → (is_among n b ≡ true → Z) → Z
@@ -83,8 +83,8 @@ all_first seen (i ∷ is) = by (is_among i.name seen) refl (all_first seen is) (
         → AllByRecursion (λ (j : Ident). is_among j.name (seen ++ names (cond k (first_uses seen is) (i ∷ first_uses (seen ++ i.name ∷ []) is))) ≡ true) (i ∷ is)
     by true e rest more = (is_among_left i.name seen (names (first_uses seen is)) e, rest)
     by false e rest more = (
-      is_among_right i.name seen (i.name ∷ names (first_uses (seen ++ i.name ∷ []) is)) (rw (bytes_eq_self i.name) refl),
-      all_weaken (λ (j : Ident). is_among j.name ((seen ++ i.name ∷ []) ++ names (first_uses (seen ++ i.name ∷ []) is)) ≡ true) (λ (j : Ident). is_among j.name (seen ++ i.name ∷ names (first_uses (seen ++ i.name ∷ []) is)) ≡ true)
+      is_among_right i.name seen (i.name ∷ names (first_uses (seen ++ i.name ∷ []) is)) (rw (bytes_eq-self i.name) refl),
+      AllByRecursion-weaken (λ (j : Ident). is_among j.name ((seen ++ i.name ∷ []) ++ names (first_uses (seen ++ i.name ∷ []) is)) ≡ true) (λ (j : Ident). is_among j.name (seen ++ i.name ∷ names (first_uses (seen ++ i.name ∷ []) is)) ≡ true)
           (λ j among. subst (λ ns. is_among j.name ns ≡ true) (append_assoc seen (i.name ∷ []) (names (first_uses (seen ++ i.name ∷ []) is))) among) is more,
     )
 
@@ -137,7 +137,7 @@ module _ (m : Module) (all_listed : unlisted m ≡ []) (n : List ℕ) where
 -- each name that is used is a net's
 pub used_nets : (m : Module) → unlisted m ≡ [] → AllByRecursion (IsAmongWires (nets m)) (uses m)
 used_nets m all_listed =
-    all_weaken (λ (i : Ident). is_among i.name (declared_names m ++ names (first_uses (declared_names m) (uses m))) ≡ true) (IsAmongWires (nets m))
+    AllByRecursion-weaken (λ (i : Ident). is_among i.name (declared_names m ++ names (first_uses (declared_names m) (uses m))) ≡ true) (IsAmongWires (nets m))
     (λ i among. from_either m all_listed i.name among) (uses m) (all_first (declared_names m) (uses m))
 
 -- a net has its reach

@@ -19,8 +19,6 @@
 use Rattle.std.specs.Prelude.{ℕ, Bool, true, false, not, ◌&&◌, bytes_eq, List, [], ◌∷◌, ◌++◌, map, flat_map, if◌then◌else◌}
 use Rattle.std.specs.List.{list_any}
 use Rattle.hold_netlist.specs.Names.{is_among}
-pub use Rattle.hold_vparse.specs.declared.mentions.Role.{Role}
-pub use Rattle.hold_vparse.specs.declared.mentions.Role.TheVariants.{ListsPort, DeclaresPort, GivesDirection, DeclaresWire, DeclaresInstance, UsesNet}
 use Rattle.hold_vsyntax.specs.declared.tree.Ident.{Ident}
 use Rattle.hold_vsyntax.specs.declared.tree.Assignment.{Assignment}
 use Rattle.hold_vsyntax.specs.declared.tree.Connection.{Connection}
@@ -30,6 +28,14 @@ use Rattle.hold_vsyntax.specs.declared.tree.Item.TheVariants.{Ports, Wires, Assi
 use Rattle.hold_vsyntax.specs.declared.tree.Module.{Module}
 use Rattle.hold_vparse.specs.Lines.{all, PortLine, header_names, header_lines, instances}
 use Rattle.hold_vparse.specs.Nets.{names, declared_names, used_in_instance}
+
+pub data Role : Type 0 where
+  ListsPort : Role
+  DeclaresPort : Role
+  GivesDirection : Role
+  DeclaresWire : Role
+  DeclaresInstance : Role
+  UsesNet : Role
 
 pub record Mention : Type 0 where
   pub role : Role

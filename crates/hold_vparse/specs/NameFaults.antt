@@ -1,4 +1,4 @@
--- is_large_range r: whether a bound of the range is above 2^20 - 1. has_large_bound w: whether one of the wire is.
+-- is_large_range r: whether a bound of the range is above its limit. has_large_bound w: whether one of the wire is.
 -- first_limit m: the first limit that the module passes: of a bound, then of the netlist's counts.
 -- name_fault f is: the fault at the one of these identifiers that stands first in the text.
 -- first_name_fault m: what the module is refused for: a name that is declared twice, else a port that is declared
@@ -7,6 +7,7 @@
 use Rattle.std.specs.Prelude.{ℕ, Bool, false, ◌||◌, nat_lt, List, if◌then◌else◌, Option, Some, None}
 use Rattle.std.specs.List.{list_any}
 use Rattle.std.specs.Option.{option_map, option_or}
+use Rattle.hold_base.specs.Limits.{bound_limit}
 use Rattle.hold_base.specs.declared.stop.What.{What}
 use Rattle.hold_base.specs.declared.stop.What.TheVariants.{Bound}
 use Rattle.hold_netlist.specs.declared.wire.Wire.{Wire}
@@ -24,7 +25,7 @@ use Rattle.hold_vparse.specs.Declares.{design_of}
 
 abbrev pub is_large_range : Option (ℕ × ℕ) → Bool
 is_large_range None = false
-is_large_range (Some r) = nat_lt 1048575 r.0 || nat_lt 1048575 r.1
+is_large_range (Some r) = nat_lt bound_limit r.0 || nat_lt bound_limit r.1
 
 abbrev pub has_large_bound : Wire → Bool
 has_large_bound w = is_large_range w.range

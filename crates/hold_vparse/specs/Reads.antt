@@ -4,6 +4,7 @@
 -- IsTreeFault text fault: the text is no module, and this is why.
 -- IsNameFault text fault: the text is a module, and the fault is the first in its names, ports, bits and limits.
 -- IsFirstFault text fault: the one fault that the text is refused for.
+-- HasOneReading text: the text reads as at most one netlist, has at most one first fault, and not both.
 use Rattle.std.specs.Prelude.{◌≡◌, ◌⊎◌, ℕ, List, Some, None}
 use Rattle.hold_netlist.specs.Design.{Design}
 use Rattle.hold_vsyntax.specs.declared.fault.SyntaxFault.{SyntaxFault}
@@ -38,3 +39,8 @@ pub record IsNameFault (text : List ℕ) (fault : VerilogFault) : Type 0 where
 
 abbrev pub IsFirstFault : List ℕ → VerilogFault → Type 0
 IsFirstFault text fault = IsTreeFault text fault ⊎ IsNameFault text fault
+
+pub record HasOneReading (text : List ℕ) : Type 0 where
+  pub netlists : (a b : Design) → Reads text a → Reads text b → a ≡ b
+  pub faults : (a b : VerilogFault) → IsFirstFault text a → IsFirstFault text b → a ≡ b
+  pub apart : (netlist : Design) (fault : VerilogFault) → Reads text netlist → IsFirstFault text fault → ⊥

@@ -1,23 +1,21 @@
 ghost use Rattle.std.specs.Prelude.{◌≡◌, ◌+◌, ◌≤◌, ◌++◌, [], length, map, flat_map, nat_lt, OnOk, IfOk};
 ghost use Rattle.std.specs.List.{range_with_len};
+ghost use Rattle.hold_base.specs.Limits.{bits_limit, assigns_limit};
 ghost use Rattle.hold_vparse.specs.BitFaults.{misfit_assignment};
 ghost use Rattle.hold_vparse.specs.Declares.{assigned, tied_bits, net_bit};
-ghost use Rattle.hold_vparse.specs.Flat.{targets};
+ghost use Rattle.hold_vparse.specs.inner.Flat.{targets};
 
 use crate::inst_list::constant_source;
 use crate::layout::{Layout, Span};
-use hold_base::{Memory, NetNo};
+use hold_base::{Memory, NetNo, limits};
 use hold_netlist::{Assign, Source};
 use hold_vsyntax::tree::{Assignment, Right};
 use std::alloc::Global;
 
-/// The most bits that a netlist may assign.
-const MOST: u32 = 1 << 25;
-
 /// Puts an assignment for each bit behind these, from the left ends.
 fn add_bits(list: &mut Vec<Assign>, left: &Span, right: &Span) -> Result<(), Memory>
-    requires left { left.now.first + left.now.count ≤ 33554432 }
-    requires right { right.now.first + right.now.count ≤ 33554432 }
+    requires left { left.now.first + left.now.count ≤ bits_limit }
+    requires right { right.now.first + right.now.count ≤ bits_limit }
     requires same { left.now.count ≡ right.now.count }
     ensures { OnOk result (list.new.items ≡ list.old.items ++ tied_bits (range_with_len left.now.first left.now.count) (map net_bit (range_with_len right.now.first right.now.count))) }
 {
@@ -75,7 +73,7 @@ pub(crate) fn assign_list(
 fn assigned_count(layout: &Layout<'_>, assignment: &Assignment) -> u32
     requires { misfit_assignment layout.now.wires.now assignment.now ≡ [] }
     ensures count { result ≡ length (assigned layout.now.wires.now assignment.now) }
-    ensures small { result ≤ 33554432 }
+    ensures small { result ≤ bits_limit }
 {
     let left = layout.part(&assignment.left);
     match &assignment.right {
@@ -90,12 +88,12 @@ fn assigned_count(layout: &Layout<'_>, assignment: &Assignment) -> u32
 /// Whether these assignments assign more bits than a netlist may.
 pub(crate) fn has_too_many_assigns(layout: &Layout<'_>, assignments: &[&Assignment]) -> bool
     requires { flat_map (misfit_assignment layout.now.wires.now) (targets assignments.now) ≡ [] }
-    ensures { result ≡ nat_lt 33554432 (length (flat_map (assigned layout.now.wires.now) (targets assignments.now))) }
+    ensures { result ≡ nat_lt assigns_limit (length (flat_map (assigned layout.now.wires.now) (targets assignments.now))) }
 {
-    let mut count = 0;
+    let mut count: u64 = 0;
     for assignment in assignments {
-        count += assigned_count(layout, assignment);
-        if count > MOST {
+        count += u64::from(assigned_count(layout, assignment));
+        if count > limits::ASSIGNS {
             return true;
         }
     }

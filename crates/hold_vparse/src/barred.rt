@@ -1,5 +1,6 @@
 ghost use Rattle.std.specs.Prelude.{◌≡◌, ◌↔◌, ◌||◌, IsTrue};
-ghost use Rattle.hold_vparse.specs.Barred.{is_barred, none_barred};
+ghost use Rattle.hold_vparse.specs.inner.Barred.{is_barred, none_barred};
+ghost use Rattle.hold_vparse.specs.inner.Roles.{seen_role};
 ghost use Rattle.hold_vparse.specs.DoubleNames.{Role as Part, clash};
 
 use crate::mentions::Role;
@@ -18,7 +19,7 @@ pub(crate) struct Barred {
 /// Whether two mentions of one name, in these roles, declare it twice, where `listed` says whether the name
 /// stands in a plain list of ports, and `net` whether it is declared as a net.
 fn is_clash(listed: bool, net: bool, earlier: Role, later: Role) -> bool
-    ensures { result ≡ clash listed net earlier later }
+    ensures { result ≡ clash listed net (seen_role earlier) (seen_role later) }
 {
     match (earlier, later) {
         (Role::ListsPort, Role::GivesDirection | Role::DeclaresWire)
@@ -34,7 +35,7 @@ fn is_clash(listed: bool, net: bool, earlier: Role, later: Role) -> bool
 
 /// Whether a role is barred that was so before, or that clashes with the earlier one.
 fn is_barred_after(before: bool, listed: bool, net: bool, earlier: Role, later: Role) -> bool
-    ensures { result ≡ (before || clash listed net earlier later) }
+    ensures { result ≡ (before || clash listed net (seen_role earlier) (seen_role later)) }
 {
     before || is_clash(listed, net, earlier, later)
 }
@@ -63,7 +64,7 @@ impl Barred {
 
     /// Whether this role is barred.
     pub(crate) fn has(self, role: Role) -> bool
-        ensures { result ≡ is_barred self role }
+        ensures { result ≡ is_barred self (seen_role role) }
     {
         match role {
             Role::ListsPort => self.lists_port,
@@ -77,7 +78,7 @@ impl Barred {
 
     /// These roles and those that clash with a mention in this one.
     pub(crate) fn after(self, listed: bool, net: bool, earlier: Role) -> Barred
-        ensures { (later : Part) → is_barred result later ≡ (is_barred self later || clash listed net earlier later) }
+        ensures { (later : Part) → is_barred result later ≡ (is_barred self later || clash listed net (seen_role earlier) later) }
     {
         Barred {
             lists_port: is_barred_after(self.lists_port, listed, net, earlier, Role::ListsPort),

@@ -1,5 +1,5 @@
 ghost use Rattle.std.specs.Prelude.{◌≡◌, bytes_eq, if◌then◌else◌, OnOk, List, ℕ};
-ghost use Rattle.hold_vparse.specs.Barred.{none_barred, barred_in};
+ghost use Rattle.hold_vparse.specs.inner.Barred.{none_barred, barred_in};
 
 use crate::barred::Barred;
 use hold_base::{Memory, Name};

@@ -2,10 +2,10 @@ ghost use Rattle.std.specs.Prelude.{◌≡◌, ◌||◌, flat_map, Some};
 ghost use Rattle.hold_vsyntax.specs.declared.tree.Connection.{Connection as Connected};
 ghost use Rattle.hold_vsyntax.specs.declared.tree.Selected.TheVariants.{Whole};
 ghost use Rattle.hold_vparse.specs.BitFaults.{reach, width, differ, is_missing_part, part_width, right_width, misfit_right, misfit_left, misfit_assignment, misfit_tied, misfit_named};
-ghost use Rattle.hold_vparse.specs.Flat.{targets, seen_instances};
-ghost use Rattle.hold_vparse.specs.Found.{found_ident};
+ghost use Rattle.hold_vparse.specs.inner.Flat.{targets, seen_instances};
+ghost use Rattle.hold_vparse.specs.inner.Found.{found_ident};
 ghost use Rattle.hold_vparse.specs.Soonest.{soonest};
-ghost use Rattle.hold_vparse.specs.Widths.{seen_widths};
+ghost use Rattle.hold_vparse.specs.inner.Widths.{seen_widths};
 
 use crate::ranged_nets::RangedNets;
 use crate::selection::{Width, are_different, has_bit, is_missing_of, width_of};

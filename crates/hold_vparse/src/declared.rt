@@ -1,7 +1,7 @@
 ghost use Rattle.std.specs.Prelude.{IfOk};
+ghost use Rattle.hold_base.specs.Answers.{IfFault};
 ghost use Rattle.hold_vsyntax.specs.Named.{IsNamedModule};
-ghost use Rattle.hold_vsyntax.specs.Answers.{Faults};
-ghost use Rattle.hold_vparse.specs.DeclaredNetlist.{IsDeclared, IsFirstNameFault};
+ghost use Rattle.hold_vparse.specs.inner.DeclaredNetlist.{IsDeclared, IsFirstNameFault};
 
 use crate::fault::VerilogFault;
 use crate::netlist::netlist_of;
@@ -20,7 +20,7 @@ pub(crate) fn declared(
 ) -> Result<Netlist, Stop<VerilogFault>>
     requires { IsNamedModule tree.now }
     ensures declared { IfOk result (IsDeclared tree.now) }
-    ensures refused { Faults result (IsFirstNameFault tree.now) }
+    ensures refused { IfFault result (IsFirstNameFault tree.now) }
 {
     let tables = tables_of(alloc, seed, tree)?;
     netlist_of(alloc, &parts_in(&tables))

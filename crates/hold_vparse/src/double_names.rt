@@ -1,8 +1,8 @@
 ghost use Rattle.std.specs.Prelude.{◌≡◌, List, [], ◌∷◌, ◌++◌, OnOk, IfOk, if◌then◌else◌};
-ghost use Rattle.hold_vparse.specs.Barred.{is_barred, barred_in, Bars};
+ghost use Rattle.hold_vparse.specs.inner.Barred.{is_barred, barred_in, Bars};
 ghost use Rattle.hold_vparse.specs.DoubleNames.{Mention as Mentioned, mentions as mentions_of, doubles, doubled as doubled_in};
-ghost use Rattle.hold_vparse.specs.Flat.{seen_mention};
-ghost use Rattle.hold_vparse.specs.Found.{found_ident};
+ghost use Rattle.hold_vparse.specs.inner.Flat.{seen_mention};
+ghost use Rattle.hold_vparse.specs.inner.Found.{found_ident};
 ghost use Rattle.hold_vparse.specs.Soonest.{soonest};
 
 use crate::barred_names::BarredNames;
@@ -16,7 +16,7 @@ use std::alloc::Global;
 
 /// The identifier of a mention in a role that is barred to its name.
 fn double_name<'a>(seen: &BarredNames, mention: &Mention<'a>) -> Option<&'a Ident>
-    ensures { found_ident result ≡ soonest (if is_barred (barred_in seen.now mention.now.name.now.name) mention.now.role then mention.now.name.now ∷ [] else []) }
+    ensures { found_ident result ≡ soonest (if is_barred (barred_in seen.now mention.now.name.now.name) (seen_mention mention.now).role then mention.now.name.now ∷ [] else []) }
 {
     if seen.find(&mention.name.name).has(mention.role) {
         Some(mention.name)

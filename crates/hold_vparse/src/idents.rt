@@ -1,5 +1,5 @@
 ghost use Rattle.std.specs.Prelude.{◌≡◌, ◌++◌, map, OnOk, IfOk};
-ghost use Rattle.hold_vparse.specs.Flat.{targets, seen_ports, seen_wires};
+ghost use Rattle.hold_vparse.specs.inner.Flat.{targets, seen_ports, seen_wires};
 ghost use Rattle.hold_vparse.specs.Lines.{PortLine, WireLine, header_names, header_lines};
 
 use crate::lines::{NamedWire, Port, header_lines_in, header_names_in};

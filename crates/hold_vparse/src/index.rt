@@ -1,7 +1,7 @@
 ghost use Rattle.std.specs.Prelude.{◌≡◌, IfOk};
 ghost use Rattle.hold_netlist.specs.Names.{is_among};
-ghost use Rattle.hold_vparse.specs.Flat.{targets};
-ghost use Rattle.hold_vparse.specs.Index.{place_of, IsIndex};
+ghost use Rattle.hold_vparse.specs.inner.Flat.{targets};
+ghost use Rattle.hold_vparse.specs.inner.Index.{place_of, IsIndex};
 ghost use Rattle.hold_vparse.specs.Nets.{names};
 
 use hold_base::{Memory, Name};
@@ -20,8 +20,8 @@ pub(crate) struct Index<'a> {
 impl<'a> Model for Index<'a> {
     ghost use Rattle.std.specs.Prelude.{List};
     ghost use Rattle.hold_vsyntax.specs.declared.tree.Ident.{Ident as Item};
-    ghost use Rattle.hold_vparse.specs.Flat.{targets};
-    ghost use Rattle.hold_vparse.specs.Index.{IsIndex};
+    ghost use Rattle.hold_vparse.specs.inner.Flat.{targets};
+    ghost use Rattle.hold_vparse.specs.inner.Index.{IsIndex};
     ghost use Rattle.hold_vparse.specs.Nets.{names};
 
     ghost Value = { List Item };

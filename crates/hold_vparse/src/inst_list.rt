@@ -2,7 +2,7 @@ ghost use Rattle.std.specs.Prelude.{◌≡◌, [], map, flat_map, IfOk};
 ghost use Rattle.hold_vsyntax.specs.declared.tree.Connection.{Connection as Connected};
 ghost use Rattle.hold_vparse.specs.BitFaults.{misfit_tied, misfit_instance, misfit_named};
 ghost use Rattle.hold_vparse.specs.Declares.{source, pin, inst, constant};
-ghost use Rattle.hold_vparse.specs.Flat.{seen_instances};
+ghost use Rattle.hold_vparse.specs.inner.Flat.{seen_instances};
 
 use crate::layout::Layout;
 use hold_base::{List, Memory, NetNo};

@@ -1,16 +1,17 @@
 ghost use Rattle.std.specs.Prelude.{◌≡◌, ◌+◌, ◌-◌, ◌≤◌, true, false, nat_lt, Some, None, IfOk, if◌then◌else◌};
 ghost use Rattle.std.specs.List.{range_with_len, list_any};
-ghost use Rattle.hold_netlist.specs.Bits.{bits_of, width_of_range};
+ghost use Rattle.hold_base.specs.Limits.{bits_limit, bound_limit};
+ghost use Rattle.hold_netlist.specs.Bits.{bits_of, width_of, width_of_range};
+ghost use Rattle.hold_netlist.specs.inner.Numbering.{firsts_from};
 ghost use Rattle.hold_netlist.specs.WellFormed.{HasBoundsInLimit};
 ghost use Rattle.hold_vsyntax.specs.declared.tree.Selected.TheVariants.{Bit};
 ghost use Rattle.hold_vparse.specs.BitFaults.{reach, is_within, has_bits, is_missing, width, is_missing_part, part_width};
 ghost use Rattle.hold_vparse.specs.Declares.{first_bit, place_in, selected_bits, part_bits};
-ghost use Rattle.hold_vparse.specs.FirstBits.{first_bits};
 ghost use Rattle.hold_vparse.specs.Lines.{range_bounds};
 ghost use Rattle.hold_vparse.specs.NameFaults.{has_large_bound};
 
 use crate::nets::Nets;
-use hold_base::{Memory, Name};
+use hold_base::{Memory, Name, limits};
 use hold_netlist::Wire;
 use hold_vsyntax::number::Number;
 use hold_vsyntax::tree::{Part, Range, Selected};
@@ -21,14 +22,14 @@ use std::alloc::Global;
 pub(crate) struct Layout<'a> {
     pub nets: &'a Nets<'a>,
     pub wires: &'a [Wire],
-    /// The number of the first bit of each wire.
+    /// The number of the first bit of each wire, and then how many bits there are.
     pub firsts: &'a [u32],
     /// How many bits there are.
     pub bits: u32,
     ghost same: { nets.now ≡ wires.now },
-    ghost numbered: { firsts.now ≡ first_bits 0 wires.now },
+    ghost numbered: { firsts.now ≡ firsts_from 0 width_of wires.now },
     ghost counted: { bits ≡ bits_of wires.now },
-    ghost few: { bits ≤ 33554432 },
+    ghost few: { bits ≤ bits_limit },
     ghost small: { list_any has_large_bound wires.now ≡ false },
 }
 
@@ -39,36 +40,34 @@ pub(crate) struct Span {
     pub count: u32,
 }
 
-/// The most bits that a netlist may have.
-const MOST: u32 = 1 << 25;
-
 /// How many bits these wires have, where that isn't too many.
 pub(crate) fn bits_within_limit(wires: &[Wire]) -> Option<u32>
     requires small { list_any has_large_bound wires.now ≡ false }
-    ensures { result ≡ (if nat_lt 33554432 (bits_of wires.now) then None else Some (bits_of wires.now)) }
+    ensures { result ≡ (if nat_lt bits_limit (bits_of wires.now) then None else Some (bits_of wires.now)) }
 {
     let mut bits = 0;
     for wire in wires {
         bits += width_in(wire.range);
-        if bits > MOST {
+        if u64::from(bits) > limits::BITS {
             return None;
         }
     }
     Some(bits)
 }
 
-/// The number of the first bit of each wire.
+/// The number of the first bit of each wire, and then how many bits there are.
 pub(crate) fn first_bits_of(alloc: Global, wires: &[Wire]) -> Result<Vec<u32>, Memory>
     requires small { list_any has_large_bound wires.now ≡ false }
-    requires few { bits_of wires.now ≤ 33554432 }
-    ensures { IfOk result (λ firsts. firsts.items ≡ first_bits 0 wires.now) }
+    requires few { bits_of wires.now ≤ bits_limit }
+    ensures { IfOk result (λ firsts. firsts.items ≡ firsts_from 0 width_of wires.now) }
 {
-    let mut firsts = Vec::with_capacity(alloc, wires.len())?;
+    let mut firsts = Vec::with_capacity(alloc, wires.len() + 1)?;
     let mut next = 0;
     for wire in wires {
         firsts.push(next)?;
         next += width_in(wire.range);
     }
+    firsts.push(next)?;
     Ok(firsts)
 }
 
@@ -76,7 +75,7 @@ pub(crate) fn first_bits_of(alloc: Global, wires: &[Wire]) -> Result<Vec<u32>, M
 fn width_in(range: Option<(u32, u32)>) -> u32
     requires { HasBoundsInLimit range }
     ensures width { result ≡ width_of_range range }
-    ensures small { result ≤ 1048576 }
+    ensures small { result ≤ bound_limit + 1 }
 {
     match range {
         None => 1,
@@ -112,7 +111,7 @@ fn count_within(range: (u32, u32), part: &Range) -> u32
 /// The bits that are selected of a net whose first bit has this number.
 fn selected_span(first: u32, range: Option<(u32, u32)>, selected: &Selected) -> Span
     requires small { HasBoundsInLimit range }
-    requires few { first ≤ 33554432 }
+    requires few { first ≤ bits_limit }
     requires there { is_missing (Some range) selected.now ≡ false }
     ensures bits { range_with_len result.first result.count ≡ selected_bits first (Some range) selected.now }
     ensures width { width (Some range) selected.now ≡ Some result.count }

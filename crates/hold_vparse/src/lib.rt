@@ -20,6 +20,7 @@ mod net_ranges;
 mod netlist;
 mod nets;
 mod number_table;
+mod one_reading;
 mod parts;
 mod pin_faults;
 mod port_faults;
@@ -29,16 +30,13 @@ mod range_table;
 mod ranged_nets;
 mod ranges;
 mod reading;
-mod reads_back;
 mod refusals;
 mod selection;
 mod soonest;
 mod tables;
-#[cfg(test)]
-mod tests;
 mod wire_list;
 mod wires;
 
 pub use fault::VerilogFault;
+pub use one_reading::know_one_reading;
 pub use reading::read;
-pub use reads_back::know_reads_back;

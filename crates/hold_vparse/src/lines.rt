@@ -1,5 +1,5 @@
 ghost use Rattle.std.specs.Prelude.{◌≡◌, ◌++◌, OnOk, IfOk};
-ghost use Rattle.hold_vparse.specs.Flat.{targets, seen_range, seen_ports, seen_wires, seen_instances};
+ghost use Rattle.hold_vparse.specs.inner.Flat.{targets, seen_range, seen_ports, seen_wires, seen_instances};
 ghost use Rattle.hold_vparse.specs.Lines.{bounds_of, header_names, header_lines, next_lines, body_lines, lines_of_item, wire_lines, wires_of_item, assignments, assignments_of_item, instances, instances_of_item};
 
 use hold_base::Memory;

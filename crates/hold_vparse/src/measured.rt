@@ -1,7 +1,7 @@
 ghost use Rattle.std.specs.Prelude.{◌≡◌, ◌==◌, min, max, IfOk, Some};
 ghost use Rattle.hold_netlist.specs.Bits.{width_of_range};
 ghost use Rattle.hold_vparse.specs.BitFaults.{is_within, runs_along, has_bits};
-ghost use Rattle.hold_vparse.specs.Bounds.{distance_of, is_falling};
+ghost use Rattle.hold_vparse.specs.inner.Bounds.{distance_of, is_falling};
 ghost use Rattle.hold_vparse.specs.Lines.{range_bounds};
 
 use crate::number_table::NumberTable;
@@ -33,9 +33,9 @@ pub(crate) struct Measured<'a> {
 
 impl Classes {
     ghost use Rattle.std.specs.Prelude.{◌≡◌, ◌==◌, ◌&&◌, IfOk};
-    ghost use Rattle.hold_vparse.specs.Bounds.{distance_of};
+    ghost use Rattle.hold_vparse.specs.inner.Bounds.{distance_of};
     ghost use Rattle.hold_vparse.specs.Lines.{range_bounds};
-    ghost use Rattle.hold_vparse.specs.Measured.{AreClasses, Keeps};
+    ghost use Rattle.hold_vparse.specs.inner.Measured.{AreClasses, Keeps};
 
     /// The classes of a range whose bounds lie so far apart.
     fn of(
@@ -68,11 +68,11 @@ impl Classes {
 
 impl<'a> Measured<'a> {
     ghost use Rattle.std.specs.Prelude.{◌≡◌, ◌==◌, ℕ, List, IfOk, Some};
+    ghost use Rattle.hold_base.specs.inner.Lists.{OneEach};
     ghost use Rattle.hold_netlist.specs.Bits.{width_of_range};
     ghost use Rattle.hold_vparse.specs.BitFaults.{is_within, runs_along, has_bits};
     ghost use Rattle.hold_vparse.specs.Lines.{range_bounds};
-    ghost use Rattle.hold_vparse.specs.Measured.{HasClasses, Keeps, measured_bounds};
-    ghost use Rattle.hold_vparse.specs.NumberTable.{OneEach};
+    ghost use Rattle.hold_vparse.specs.inner.Measured.{HasClasses, Keeps, measured_bounds};
     ghost use Rattle.hold_vparse.specs.PortFaults.{same_range};
 
     /// Measures a range.

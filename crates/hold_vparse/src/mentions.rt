@@ -1,6 +1,7 @@
 ghost use Rattle.std.specs.Prelude.{◌≡◌, ◌++◌, ◌∷◌, map, flat_map, OnOk, IfOk};
 ghost use Rattle.hold_vsyntax.specs.declared.tree.Assignment.{Assignment as Assigned};
-ghost use Rattle.hold_vparse.specs.Flat.{seen_ident, seen_ports, seen_mentions};
+ghost use Rattle.hold_vparse.specs.inner.Flat.{seen_ident, seen_ports, seen_mentions};
+ghost use Rattle.hold_vparse.specs.inner.Roles.{seen_role};
 ghost use Rattle.hold_vparse.specs.DoubleNames.{mention, DeclaresPort, UsesNet, mentions, mentions_of_item, mentions_of_instance};
 ghost use Rattle.hold_vparse.specs.Lines.{PortLine};
 ghost use Rattle.hold_vparse.specs.Nets.{used_in_tied};
@@ -86,7 +87,7 @@ fn add_instances<'a>(
 
 /// Puts names in one role behind these.
 fn add_names<'a>(list: &mut Vec<Mention<'a>>, role: Role, names: &'a [Ident]) -> Result<(), Memory>
-    ensures { OnOk result (seen_mentions list.new.items ≡ seen_mentions list.old.items ++ map (mention role) names.now) }
+    ensures { OnOk result (seen_mentions list.new.items ≡ seen_mentions list.old.items ++ map (mention (seen_role role)) names.now) }
 {
     for name in names {
         list.push(Mention { role, name })?;
@@ -101,7 +102,7 @@ fn add_several_names<'a>(
     first: &'a Ident,
     rest: &'a [Ident],
 ) -> Result<(), Memory>
-    ensures { OnOk result (seen_mentions list.new.items ≡ seen_mentions list.old.items ++ map (mention role) (first.now ∷ rest.now)) }
+    ensures { OnOk result (seen_mentions list.new.items ≡ seen_mentions list.old.items ++ map (mention (seen_role role)) (first.now ∷ rest.now)) }
 {
     list.push(Mention { role, name: first })?;
     add_names(list, role, rest)

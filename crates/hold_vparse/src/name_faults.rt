@@ -1,7 +1,7 @@
 ghost use Rattle.std.specs.Prelude.{◌≡◌};
 ghost use Rattle.std.specs.List.{list_any};
 ghost use Rattle.hold_vparse.specs.BitFaults.{misfit};
-ghost use Rattle.hold_vparse.specs.Found.{found_ident};
+ghost use Rattle.hold_vparse.specs.inner.Found.{found_ident};
 ghost use Rattle.hold_vparse.specs.NameFaults.{has_large_bound};
 ghost use Rattle.hold_vparse.specs.Nets.{nets as nets_of};
 ghost use Rattle.hold_vparse.specs.PortFaults.{misdeclared};

@@ -1,9 +1,9 @@
 ghost use Rattle.std.specs.Prelude.{◌≡◌, ◌++◌, ◌∷◌, [], map, length, OnOk, IfOk};
 ghost use Rattle.hold_vsyntax.specs.declared.tree.Ident.{Ident as Named};
-ghost use Rattle.hold_vparse.specs.Flat.{seen_ports, seen_wires};
+ghost use Rattle.hold_vparse.specs.inner.Flat.{seen_ports, seen_wires};
 ghost use Rattle.hold_vparse.specs.Lines.{as_declared, line_of, ports_of, header_lines, body_lines, wire_lines};
 ghost use Rattle.hold_vparse.specs.Nets.{names, port_idents, nets as nets_of};
-ghost use Rattle.hold_vparse.specs.Ranges.{port_ranges, wire_ranges, range_lists, with_nets, other_ranges, ranges_of};
+ghost use Rattle.hold_vparse.specs.inner.Ranges.{port_ranges, wire_ranges, range_lists, with_nets, other_ranges, ranges_of};
 
 use crate::index::Index;
 use crate::lines::{NamedWire, Port};

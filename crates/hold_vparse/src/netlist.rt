@@ -1,14 +1,15 @@
 ghost use Rattle.std.specs.Prelude.{◌≡◌, ◌≤◌, None, true, nat_lt, length, IfOk, OnOk};
+ghost use Rattle.hold_base.specs.Answers.{IfFault, IfStopFault};
+ghost use Rattle.hold_base.specs.Limits.{bits_limit, assigns_limit};
 ghost use Rattle.hold_netlist.specs.Bits.{bits_of};
 ghost use Rattle.hold_netlist.specs.Design.{design};
 ghost use Rattle.hold_netlist.specs.Doubles.{first_double_name};
 ghost use Rattle.hold_netlist.specs.Limits.{first_passed_limit};
 ghost use Rattle.hold_netlist.specs.WellFormed.{IsWellFormed};
 ghost use Rattle.hold_vsyntax.specs.Named.{IsNamedModule};
-ghost use Rattle.hold_vsyntax.specs.Answers.{Faults, StopsBy};
-ghost use Rattle.hold_vparse.specs.Clear.{IsClear};
-ghost use Rattle.hold_vparse.specs.DeclaredNetlist.{IsDeclared, IsFirstNameFault};
-ghost use Rattle.hold_vparse.specs.DesignWith.{design_with, insts_of, assigns_of, IsLimit};
+ghost use Rattle.hold_vparse.specs.inner.Clear.{IsClear};
+ghost use Rattle.hold_vparse.specs.inner.DeclaredNetlist.{IsDeclared, IsFirstNameFault};
+ghost use Rattle.hold_vparse.specs.inner.DesignWith.{design_with, insts_of, assigns_of, IsLimit};
 ghost use Rattle.hold_vparse.specs.Nets.{nets as nets_of};
 
 use crate::assign_list::{assign_list, has_too_many_assigns};
@@ -35,7 +36,7 @@ fn netlist_in_limits(
     requires names { first_double_name (design name ports.items wires.items insts.items assigns.items) ≡ None }
     ensures made { IfOk result (λ netlist. netlist ≡ design name ports.items wires.items insts.items assigns.items) }
     ensures limits { OnOk result (first_passed_limit (design name ports.items wires.items insts.items assigns.items) ≡ None) }
-    ensures refused { Faults result (IsLimit (design name ports.items wires.items insts.items assigns.items)) }
+    ensures refused { IfFault result (IsLimit (design name ports.items wires.items insts.items assigns.items)) }
 {
     match Netlist::make(alloc, name, ports, wires, insts, assigns) {
         Ok(netlist) => Ok(netlist),
@@ -61,7 +62,7 @@ fn netlist_with(
     requires names { first_double_name (design_with parts.now.tree.now assigns.items) ≡ None }
     ensures made { IfOk result (λ netlist. netlist ≡ design_with parts.now.tree.now assigns.items) }
     ensures limits { OnOk result (first_passed_limit (design_with parts.now.tree.now assigns.items) ≡ None) }
-    ensures refused { Faults result (IsLimit (design_with parts.now.tree.now assigns.items)) }
+    ensures refused { IfFault result (IsLimit (design_with parts.now.tree.now assigns.items)) }
 {
     let name = parts.tree.name.name.clone()?;
     let ports = port_list(alloc, parts.ports)?;
@@ -80,8 +81,8 @@ fn refused_for_assigns(
     requires clear { IsClear parts.now.tree.now }
     requires wires { wires.items ≡ nets_of parts.now.tree.now }
     requires insts { insts.items ≡ insts_of parts.now.tree.now }
-    requires many { nat_lt 33554432 (length (assigns_of parts.now.tree.now)) ≡ true }
-    ensures { StopsBy result (IsFirstNameFault parts.now.tree.now) }
+    requires many { nat_lt assigns_limit (length (assigns_of parts.now.tree.now)) ≡ true }
+    ensures { IfStopFault result (IsFirstNameFault parts.now.tree.now) }
 {
     match netlist_with(alloc, parts, wires, insts, Vec::new(alloc)) {
         Ok(_) => Stop::Fault(VerilogFault::Limit(What::Assigns)),
@@ -103,7 +104,7 @@ fn whole_netlist(
     requires insts { insts.items ≡ insts_of parts.now.tree.now }
     requires assigns { assigns.items ≡ assigns_of parts.now.tree.now }
     ensures declared { IfOk result (IsDeclared parts.now.tree.now) }
-    ensures refused { Faults result (IsFirstNameFault parts.now.tree.now) }
+    ensures refused { IfFault result (IsFirstNameFault parts.now.tree.now) }
 {
     netlist_with(alloc, parts, wires, insts, assigns)
 }
@@ -119,9 +120,9 @@ fn netlist_of_bits(
     requires clear { IsClear parts.now.tree.now }
     requires wires { wires.items ≡ nets_of parts.now.tree.now }
     requires bits { bits ≡ bits_of (nets_of parts.now.tree.now) }
-    requires few { bits ≤ 33554432 }
+    requires few { bits ≤ bits_limit }
     ensures declared { IfOk result (IsDeclared parts.now.tree.now) }
-    ensures refused { Faults result (IsFirstNameFault parts.now.tree.now) }
+    ensures refused { IfFault result (IsFirstNameFault parts.now.tree.now) }
 {
     let firsts = first_bits_of(alloc, &wires)?;
     let layout = Layout {
@@ -143,7 +144,7 @@ fn clear_netlist(alloc: Global, parts: &Parts<'_>) -> Result<Netlist, Stop<Veril
     requires named { IsNamedModule parts.now.tree.now }
     requires clear { IsClear parts.now.tree.now }
     ensures declared { IfOk result (IsDeclared parts.now.tree.now) }
-    ensures refused { Faults result (IsFirstNameFault parts.now.tree.now) }
+    ensures refused { IfFault result (IsFirstNameFault parts.now.tree.now) }
 {
     let wires = wire_list(alloc, parts.nets.wires())?;
     match bits_within_limit(&wires) {
@@ -156,7 +157,7 @@ fn clear_netlist(alloc: Global, parts: &Parts<'_>) -> Result<Netlist, Stop<Veril
 pub(crate) fn netlist_of(alloc: Global, parts: &Parts<'_>) -> Result<Netlist, Stop<VerilogFault>>
     requires { IsNamedModule parts.now.tree.now }
     ensures declared { IfOk result (IsDeclared parts.now.tree.now) }
-    ensures refused { Faults result (IsFirstNameFault parts.now.tree.now) }
+    ensures refused { IfFault result (IsFirstNameFault parts.now.tree.now) }
 {
     refuse_names(alloc, parts)?;
     clear_netlist(alloc, parts)

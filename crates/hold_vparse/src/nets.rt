@@ -1,7 +1,7 @@
 ghost use Rattle.std.specs.Prelude.{◌≡◌, IfOk};
 ghost use Rattle.hold_netlist.specs.Names.{wire_names};
-ghost use Rattle.hold_vparse.specs.Flat.{targets, net_wires, named_idents};
-ghost use Rattle.hold_vparse.specs.Index.{place_of};
+ghost use Rattle.hold_vparse.specs.inner.Flat.{targets, net_wires, named_idents};
+ghost use Rattle.hold_vparse.specs.inner.Index.{place_of};
 
 use crate::index::Index;
 use crate::lines::NamedWire;
@@ -21,7 +21,7 @@ pub(crate) struct Nets<'a> {
 impl<'a> Model for Nets<'a> {
     ghost use Rattle.std.specs.Prelude.{◌≡◌, List, map};
     ghost use Rattle.hold_netlist.specs.declared.wire.Wire.{Wire};
-    ghost use Rattle.hold_vparse.specs.Flat.{net_wires, named_idents};
+    ghost use Rattle.hold_vparse.specs.inner.Flat.{net_wires, named_idents};
 
     ghost Value = { List Wire };
 

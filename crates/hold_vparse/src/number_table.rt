@@ -1,6 +1,8 @@
 ghost use Rattle.std.specs.Prelude.{◌≡◌, [], Some, slice_get, IfOk, OnErr};
-ghost use Rattle.hold_vsyntax.specs.Number.{number_of, IsPlain};
-ghost use Rattle.hold_vparse.specs.NumberTable.{MayAdd, OneEach};
+ghost use Rattle.hold_base.specs.inner.Lists.{OneEach};
+ghost use Rattle.hold_base.specs.Digits.{number_of};
+ghost use Rattle.hold_vsyntax.specs.Number.{IsPlain};
+ghost use Rattle.hold_vparse.specs.inner.NumberTable.{MayAdd};
 
 use hold_base::Memory;
 use hold_netlist::{NameTable, Seed};
@@ -19,7 +21,7 @@ pub(crate) struct NumberTable {
 
 impl Model for NumberTable {
     ghost use Rattle.std.specs.Prelude.{List, ℕ};
-    ghost use Rattle.hold_vparse.specs.NumberTable.{numbers_of, IsClassed};
+    ghost use Rattle.hold_vparse.specs.inner.NumberTable.{numbers_of, IsClassed};
 
     ghost Value = { List ℕ };
 

@@ -1,9 +1,9 @@
 ghost use Rattle.std.specs.Prelude.{◌≡◌, ◌++◌, IfOk};
 ghost use Rattle.hold_vparse.specs.DoubleNames.{mentions as mentions_of};
-ghost use Rattle.hold_vparse.specs.Flat.{targets, seen_ports, seen_wires, seen_mentions, seen_instances};
+ghost use Rattle.hold_vparse.specs.inner.Flat.{targets, seen_ports, seen_wires, seen_mentions, seen_instances};
 ghost use Rattle.hold_vparse.specs.Lines.{header_names, header_lines, body_lines as body_lines_of, ports_of, wire_lines as wire_lines_of, assignments as assignments_of, instances as instances_of};
 ghost use Rattle.hold_vparse.specs.Nets.{names, port_idents, declared_names, nets as nets_of};
-ghost use Rattle.hold_vparse.specs.Ranges.{ranges_of};
+ghost use Rattle.hold_vparse.specs.inner.Ranges.{ranges_of};
 
 use crate::idents::{declared_idents, header_idents, references};
 use crate::index::Index;

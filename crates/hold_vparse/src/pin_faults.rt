@@ -1,9 +1,9 @@
 ghost use Rattle.std.specs.Prelude.{◌≡◌, ◌++◌, ◌∷◌, [], flat_map, IfOk, if◌then◌else◌};
 ghost use Rattle.hold_netlist.specs.Names.{is_among};
-ghost use Rattle.hold_netlist.specs.NameTable.{names_of};
+ghost use Rattle.hold_netlist.specs.inner.NameTable.{names_of};
 ghost use Rattle.hold_vparse.specs.DoubleNames.{repeated_pins, repeated_in};
-ghost use Rattle.hold_vparse.specs.Flat.{seen_instances};
-ghost use Rattle.hold_vparse.specs.Found.{found_ident};
+ghost use Rattle.hold_vparse.specs.inner.Flat.{seen_instances};
+ghost use Rattle.hold_vparse.specs.inner.Found.{found_ident};
 ghost use Rattle.hold_vparse.specs.Soonest.{soonest};
 
 use crate::soonest::soonest_of;

@@ -2,12 +2,12 @@ ghost use Rattle.std.specs.Prelude.{◌≡◌, [], ◌∷◌, map, flat_map, not
 ghost use Rattle.std.specs.List.{filter};
 ghost use Rattle.hold_netlist.specs.Names.{is_among};
 ghost use Rattle.hold_vsyntax.specs.declared.tree.Ident.{Ident as Named};
-ghost use Rattle.hold_vparse.specs.Flat.{seen_port, seen_ports, seen_wire, seen_wires, seen_range};
-ghost use Rattle.hold_vparse.specs.Found.{found_ident};
+ghost use Rattle.hold_vparse.specs.inner.Flat.{seen_port, seen_ports, seen_wire, seen_wires, seen_range};
+ghost use Rattle.hold_vparse.specs.inner.Found.{found_ident};
 ghost use Rattle.hold_vparse.specs.Lines.{PortLine, WireLine, line_of};
 ghost use Rattle.hold_vparse.specs.Nets.{names};
 ghost use Rattle.hold_vparse.specs.PortFaults.{later, unlike_line};
-ghost use Rattle.hold_vparse.specs.Ranges.{line_range, port_ranges, wire_ranges};
+ghost use Rattle.hold_vparse.specs.inner.Ranges.{line_range, port_ranges, wire_ranges};
 ghost use Rattle.hold_vparse.specs.Soonest.{soonest};
 
 use crate::index::Index;

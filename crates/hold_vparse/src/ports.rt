@@ -1,7 +1,7 @@
 ghost use Rattle.std.specs.Prelude.{◌≡◌, map, slice_get, IfOk};
 ghost use Rattle.hold_vsyntax.specs.declared.tree.Ident.{Ident as Named};
-ghost use Rattle.hold_vparse.specs.Flat.{seen_port, seen_ports, seen_found};
-ghost use Rattle.hold_vparse.specs.Index.{place_of};
+ghost use Rattle.hold_vparse.specs.inner.Flat.{seen_port, seen_ports, seen_found};
+ghost use Rattle.hold_vparse.specs.inner.Index.{place_of};
 ghost use Rattle.hold_vparse.specs.Lines.{PortLine, line_of, as_declared, ports_in};
 ghost use Rattle.hold_vparse.specs.Nets.{names};
 
@@ -23,7 +23,7 @@ pub(crate) struct Ports<'a> {
 
 impl<'a> Model for Ports<'a> {
     ghost use Rattle.std.specs.Prelude.{◌≡◌, List, map};
-    ghost use Rattle.hold_vparse.specs.Flat.{seen_ports};
+    ghost use Rattle.hold_vparse.specs.inner.Flat.{seen_ports};
     ghost use Rattle.hold_vparse.specs.Lines.{PortLine as Line};
 
     ghost Value = { List Line };

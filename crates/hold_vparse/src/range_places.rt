@@ -1,9 +1,9 @@
 ghost use Rattle.std.specs.Prelude.{◌≡◌, ◌++◌, ◌∷◌, ℕ, List, map, OnOk, IfOk};
 ghost use Rattle.hold_vsyntax.specs.declared.tree.Ident.{Ident as Named};
-ghost use Rattle.hold_vparse.specs.Bounds.{Hold, Grows};
-ghost use Rattle.hold_vparse.specs.Index.{at_place};
+ghost use Rattle.hold_vparse.specs.inner.Bounds.{Hold, Grows};
+ghost use Rattle.hold_vparse.specs.inner.Index.{at_place};
 ghost use Rattle.hold_vparse.specs.Lines.{all, bounds_of, header_line, next_lines, header_lines, body_lines, wire_lines, lines_of_item, wires_of_item};
-ghost use Rattle.hold_vparse.specs.Ranges.{next_range, port_ranges, wire_ranges};
+ghost use Rattle.hold_vparse.specs.inner.Ranges.{next_range, port_ranges, wire_ranges};
 
 use crate::range_table::RangeTable;
 use hold_base::Memory;

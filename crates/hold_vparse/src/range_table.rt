@@ -1,11 +1,11 @@
 ghost use Rattle.std.specs.Prelude.{◌≡◌, ◌==◌, ◌++◌, ◌∷◌, [], length, IfOk, OnOk};
 ghost use Rattle.std.specs.Option.{option_copied};
 ghost use Rattle.hold_netlist.specs.Bits.{width_of_range};
-ghost use Rattle.hold_vparse.specs.Bounds.{Holds, Grows};
-ghost use Rattle.hold_vparse.specs.Index.{at_place};
-ghost use Rattle.hold_vparse.specs.Flat.{seen_range};
+ghost use Rattle.hold_vparse.specs.inner.Bounds.{Holds, Grows};
+ghost use Rattle.hold_vparse.specs.inner.Index.{at_place};
+ghost use Rattle.hold_vparse.specs.inner.Flat.{seen_range};
 ghost use Rattle.hold_vparse.specs.Lines.{range_bounds};
-ghost use Rattle.hold_vparse.specs.Measured.{seen_measured};
+ghost use Rattle.hold_vparse.specs.inner.Measured.{seen_measured};
 ghost use Rattle.hold_vparse.specs.PortFaults.{same_range};
 
 use crate::measured::Measured;
@@ -26,7 +26,7 @@ pub(crate) struct RangeTable<'a> {
 
 impl<'a> Model for RangeTable<'a> {
     ghost use Rattle.std.specs.Prelude.{ℕ, List, map};
-    ghost use Rattle.hold_vparse.specs.Measured.{measured_bounds, HaveClasses};
+    ghost use Rattle.hold_vparse.specs.inner.Measured.{measured_bounds, HaveClasses};
 
     ghost Value = { List (ℕ × ℕ) };
 

@@ -1,8 +1,8 @@
 ghost use Rattle.std.specs.Prelude.{◌≡◌};
 ghost use Rattle.hold_vparse.specs.BitFaults.{reach};
-ghost use Rattle.hold_vparse.specs.Measured.{seen_reach};
-ghost use Rattle.hold_vparse.specs.Index.{at_place};
-ghost use Rattle.hold_vparse.specs.Ranges.{net_ranges};
+ghost use Rattle.hold_vparse.specs.inner.Measured.{seen_reach};
+ghost use Rattle.hold_vparse.specs.inner.Index.{at_place};
+ghost use Rattle.hold_vparse.specs.inner.Ranges.{net_ranges};
 
 use crate::measured::Measured;
 use crate::nets::Nets;

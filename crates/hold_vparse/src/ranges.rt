@@ -1,10 +1,10 @@
 ghost use Rattle.std.specs.Prelude.{◌≡◌, ◌==◌, ◌-◌, ◌≤◌, ◌++◌, ◌∷◌, [], length, map, take, replicate, is_some, slice_get, unwrap_or, None, OnOk};
 ghost use Rattle.hold_netlist.specs.Bits.{width_of_range};
-ghost use Rattle.hold_vparse.specs.Index.{at_place};
-ghost use Rattle.hold_vparse.specs.Measured.{seen_reach};
+ghost use Rattle.hold_vparse.specs.inner.Index.{at_place};
+ghost use Rattle.hold_vparse.specs.inner.Measured.{seen_reach};
 ghost use Rattle.hold_vparse.specs.PortFaults.{same_range};
-ghost use Rattle.hold_vparse.specs.Ranges.{range_lists, with_nets, line_range};
-ghost use Rattle.hold_vparse.specs.Widths.{bounds_width};
+ghost use Rattle.hold_vparse.specs.inner.Ranges.{range_lists, with_nets, line_range};
+ghost use Rattle.hold_vparse.specs.inner.Widths.{bounds_width};
 
 use crate::measured::Measured;
 use crate::range_table::RangeTable;
@@ -25,8 +25,8 @@ pub(crate) struct Ranges<'a> {
 
 impl<'a> Model for Ranges<'a> {
     ghost use Rattle.std.specs.Prelude.{map};
-    ghost use Rattle.hold_vparse.specs.Index.{at_place};
-    ghost use Rattle.hold_vparse.specs.Ranges.{RangeLists, range_lists};
+    ghost use Rattle.hold_vparse.specs.inner.Index.{at_place};
+    ghost use Rattle.hold_vparse.specs.inner.Ranges.{RangeLists, range_lists};
 
     ghost Value = { RangeLists };
 

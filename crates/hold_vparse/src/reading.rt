@@ -1,6 +1,6 @@
-ghost use Rattle.std.specs.Prelude.{◌≡◌, IfOk};
+ghost use Rattle.std.specs.Prelude.{Ok, Err, IfOk};
+ghost use Rattle.hold_base.specs.Answers.{Answers, IfFault};
 ghost use Rattle.hold_netlist.specs.Design.{Design};
-ghost use Rattle.hold_vsyntax.specs.Answers.{Faults, Answers, AnswersFault};
 ghost use Rattle.hold_vparse.specs.declared.fault.VerilogFault.{VerilogFault as TheFault};
 ghost use Rattle.hold_vparse.specs.Reads.{Reads, IsFirstFault};
 
@@ -21,9 +21,9 @@ use std::alloc::Global;
 /// that it passes. Either is the only answer but for want of memory, which may come at any text.
 pub fn read(alloc: Global, text: &[u8]) -> Result<Netlist, Stop<VerilogFault>>
     ensures read { IfOk result (Reads text.now) }
-    ensures refused { Faults result (IsFirstFault text.now) }
-    ensures only_read { (d : Design) → Reads text.now d → Answers result d }
-    ensures only_refused { (fault : TheFault) → IsFirstFault text.now fault → AnswersFault result fault }
+    ensures refused { IfFault result (IsFirstFault text.now) }
+    ensures only_read { (d : Design) → Reads text.now d → Answers result (Ok d) }
+    ensures only_refused { (fault : TheFault) → IsFirstFault text.now fault → Answers result (Err fault) }
 {
     netlist_of_text(alloc, text)
 }
@@ -31,7 +31,7 @@ pub fn read(alloc: Global, text: &[u8]) -> Result<Netlist, Stop<VerilogFault>>
 /// Reads the netlist that the text declares.
 fn netlist_of_text(alloc: Global, text: &[u8]) -> Result<Netlist, Stop<VerilogFault>>
     ensures read { IfOk result (Reads text.now) }
-    ensures refused { Faults result (IsFirstFault text.now) }
+    ensures refused { IfFault result (IsFirstFault text.now) }
 {
     match syntax_tree(alloc, text) {
         Ok(tree) => declared(alloc, Seed::of(text), &tree),

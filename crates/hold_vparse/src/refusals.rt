@@ -1,13 +1,13 @@
 ghost use Rattle.std.specs.Prelude.{◌≡◌, [], false, IfOk, OnOk};
 ghost use Rattle.std.specs.List.{list_any};
 ghost use Rattle.std.specs.Option.{option_map};
+ghost use Rattle.hold_base.specs.Answers.{IfFault};
 ghost use Rattle.hold_vsyntax.specs.declared.tree.Ident.{Ident as Named};
-ghost use Rattle.hold_vsyntax.specs.Answers.{Faults};
 ghost use Rattle.hold_vparse.specs.BitFaults.{misfit};
-ghost use Rattle.hold_vparse.specs.Clear.{IsClear};
-ghost use Rattle.hold_vparse.specs.DeclaredNetlist.{IsFirstNameFault};
+ghost use Rattle.hold_vparse.specs.inner.Clear.{IsClear};
+ghost use Rattle.hold_vparse.specs.inner.DeclaredNetlist.{IsFirstNameFault};
 ghost use Rattle.hold_vparse.specs.DoubleNames.{doubled as doubled_in};
-ghost use Rattle.hold_vparse.specs.Found.{found_ident};
+ghost use Rattle.hold_vparse.specs.inner.Found.{found_ident};
 ghost use Rattle.hold_vparse.specs.NameFaults.{has_large_bound};
 ghost use Rattle.hold_vparse.specs.Nets.{nets as nets_of};
 ghost use Rattle.hold_vparse.specs.PortFaults.{misdeclared};
@@ -34,7 +34,7 @@ fn name_of(alloc: Global, ident: Option<&Ident>) -> Result<Option<Name>, Memory>
 #[tactic(auto, using(crate::proofs::SoonestLemmas::unnamed))]
 fn refuse_double(alloc: Global, parts: &Parts<'_>) -> Result<(), Stop<VerilogFault>>
     ensures clear { OnOk result (doubled_in parts.now.tree.now ≡ []) }
-    ensures refused { Faults result (IsFirstNameFault parts.now.tree.now) }
+    ensures refused { IfFault result (IsFirstNameFault parts.now.tree.now) }
 {
     let ident = doubled(alloc, parts)?;
     match name_of(alloc, ident)? {
@@ -48,7 +48,7 @@ fn refuse_double(alloc: Global, parts: &Parts<'_>) -> Result<(), Stop<VerilogFau
 fn refuse_port(alloc: Global, parts: &Parts<'_>) -> Result<(), Stop<VerilogFault>>
     requires names { doubled_in parts.now.tree.now ≡ [] }
     ensures clear { OnOk result (misdeclared parts.now.tree.now ≡ []) }
-    ensures refused { Faults result (IsFirstNameFault parts.now.tree.now) }
+    ensures refused { IfFault result (IsFirstNameFault parts.now.tree.now) }
 {
     match name_of(alloc, misdeclared_ident(parts))? {
         Some(name) => Err(Stop::Fault(VerilogFault::BadPort(name))),
@@ -62,7 +62,7 @@ fn refuse_bit(alloc: Global, parts: &Parts<'_>) -> Result<(), Stop<VerilogFault>
     requires names { doubled_in parts.now.tree.now ≡ [] }
     requires ports { misdeclared parts.now.tree.now ≡ [] }
     ensures clear { OnOk result (misfit parts.now.tree.now ≡ []) }
-    ensures refused { Faults result (IsFirstNameFault parts.now.tree.now) }
+    ensures refused { IfFault result (IsFirstNameFault parts.now.tree.now) }
 {
     match name_of(alloc, misfit_ident(parts))? {
         Some(name) => Err(Stop::Fault(VerilogFault::BadBit(name))),
@@ -76,7 +76,7 @@ fn refuse_bound(parts: &Parts<'_>) -> Result<(), Stop<VerilogFault>>
     requires ports { misdeclared parts.now.tree.now ≡ [] }
     requires bits { misfit parts.now.tree.now ≡ [] }
     ensures clear { OnOk result (list_any has_large_bound (nets_of parts.now.tree.now) ≡ false) }
-    ensures refused { Faults result (IsFirstNameFault parts.now.tree.now) }
+    ensures refused { IfFault result (IsFirstNameFault parts.now.tree.now) }
 {
     if has_passed_bound(parts) {
         Err(Stop::Fault(VerilogFault::Limit(What::Bound)))
@@ -88,7 +88,7 @@ fn refuse_bound(parts: &Parts<'_>) -> Result<(), Stop<VerilogFault>>
 /// Refuses what is wrong in a module's names, and a bound that is too large.
 pub(crate) fn refuse_names(alloc: Global, parts: &Parts<'_>) -> Result<(), Stop<VerilogFault>>
     ensures clear { OnOk result (IsClear parts.now.tree.now) }
-    ensures refused { Faults result (IsFirstNameFault parts.now.tree.now) }
+    ensures refused { IfFault result (IsFirstNameFault parts.now.tree.now) }
 {
     refuse_double(alloc, parts)?;
     refuse_port(alloc, parts)?;

@@ -1,9 +1,9 @@
 ghost use Rattle.std.specs.Prelude.{◌≡◌, ◌==◌, not};
 ghost use Rattle.hold_vsyntax.specs.declared.tree.Selected.TheVariants.{Bit as BitAt};
 ghost use Rattle.hold_vparse.specs.BitFaults.{is_missing, width, differ};
-ghost use Rattle.hold_vparse.specs.Measured.{seen_reach};
-ghost use Rattle.hold_vparse.specs.Index.{at_place};
-ghost use Rattle.hold_vparse.specs.Widths.{seen_width, seen_widths, bounds_width};
+ghost use Rattle.hold_vparse.specs.inner.Measured.{seen_reach};
+ghost use Rattle.hold_vparse.specs.inner.Index.{at_place};
+ghost use Rattle.hold_vparse.specs.inner.Widths.{seen_width, seen_widths, bounds_width};
 
 use crate::measured::{Measured, greater_first};
 use crate::ranges::Ranges;

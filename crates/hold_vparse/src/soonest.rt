@@ -1,5 +1,5 @@
 ghost use Rattle.std.specs.Prelude.{◌≡◌};
-ghost use Rattle.hold_vparse.specs.Found.{merged, found_ident};
+ghost use Rattle.hold_vparse.specs.inner.Found.{merged, found_ident};
 
 use hold_vsyntax::tree::Ident;
 

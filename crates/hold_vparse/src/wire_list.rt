@@ -1,25 +1,23 @@
 ghost use Rattle.std.specs.Prelude.{◌≡◌, false, nat_lt, map, IfOk};
 ghost use Rattle.std.specs.List.{list_any};
+ghost use Rattle.hold_base.specs.Limits.{bound_limit};
 ghost use Rattle.hold_vparse.specs.Declares.{port};
-ghost use Rattle.hold_vparse.specs.Flat.{seen_range, seen_ports, net_wire, net_wires};
+ghost use Rattle.hold_vparse.specs.inner.Flat.{seen_range, seen_ports, net_wire, net_wires};
 ghost use Rattle.hold_vparse.specs.NameFaults.{is_large_range, has_large_bound};
 
 use crate::lines::{NamedWire, Port};
-use hold_base::Memory;
+use hold_base::{Memory, limits};
 use hold_netlist::{Port as NetPort, Wire};
 use hold_vsyntax::number::Number;
 use hold_vsyntax::tree::Range;
 use std::alloc::Global;
 
-/// The greatest bound of a range.
-const MOST: u32 = (1 << 20) - 1;
-
 /// Whether a number is above the greatest bound.
 fn is_large(number: &Number) -> bool
-    ensures { result ≡ nat_lt 1048575 number.now }
+    ensures { result ≡ nat_lt bound_limit number.now }
 {
     match number.small() {
-        Some(number) => number > MOST,
+        Some(number) => number > limits::BOUND,
         None => true,
     }
 }

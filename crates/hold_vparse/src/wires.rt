@@ -1,12 +1,13 @@
 ghost use Rattle.std.specs.Prelude.{◌≡◌, ◌++◌, ◌∷◌, [], map, not, ◌&&◌, None, OnOk, IfOk, if◌then◌else◌};
 ghost use Rattle.std.specs.List.{filter};
 ghost use Rattle.hold_netlist.specs.Names.{is_among};
-ghost use Rattle.hold_netlist.specs.NameTable.{names_of};
+ghost use Rattle.hold_netlist.specs.inner.NameTable.{names_of};
 ghost use Rattle.hold_vsyntax.specs.declared.tree.Ident.{Ident as Named};
-ghost use Rattle.hold_vparse.specs.Flat.{seen_ports, seen_wires, seen_mention, seen_mentions, net_wires};
+ghost use Rattle.hold_vparse.specs.inner.Flat.{seen_ports, seen_wires, seen_mention, seen_mentions, net_wires};
 ghost use Rattle.hold_vparse.specs.Lines.{PortLine, WireLine};
 ghost use Rattle.hold_vparse.specs.Nets.{names, wire, first_uses};
-ghost use Rattle.hold_vparse.specs.Uses.{is_use, used, wires_of};
+ghost use Rattle.hold_vparse.specs.inner.Roles.{seen_role};
+ghost use Rattle.hold_vparse.specs.inner.Uses.{is_use, used, wires_of};
 
 use crate::index::Index;
 use crate::lines::{NamedWire, Port};
@@ -49,7 +50,7 @@ fn add_other_wires<'a>(
 
 /// Whether a mention in this role uses a net.
 fn is_net_use(role: Role) -> bool
-    ensures { result ≡ is_use role }
+    ensures { result ≡ is_use (seen_role role) }
 {
     matches!(role, Role::UsesNet)
 }
@@ -62,7 +63,7 @@ fn is_first_use(
     seen: &mut NameTable,
     mention: &Mention<'_>,
 ) -> Result<bool, Memory>
-    ensures new { IfOk result (λ new. new ≡ (is_use mention.now.role && not (is_among mention.now.name.now.name (names declared.now ++ names_of seen.old)))) }
+    ensures new { IfOk result (λ new. new ≡ (is_use (seen_role mention.now.role) && not (is_among mention.now.name.now.name (names declared.now ++ names_of seen.old)))) }
     ensures seen { IfOk result (λ new. names_of seen.new ≡ (if new then names_of seen.old ++ mention.now.name.now.name ∷ [] else names_of seen.old)) }
 {
     if !is_net_use(mention.role) || declared.has(&mention.name.name) {

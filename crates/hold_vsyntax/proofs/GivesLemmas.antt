@@ -7,7 +7,7 @@ use Rattle.hold_base.specs.declared.stop.Stop.{Stop}
 use Rattle.hold_base.specs.declared.stop.Stop.TheVariants.{Memory, Fault}
 use Rattle.hold_vsyntax.specs.declared.fault.BadPiece.{BadPiece}
 use Rattle.hold_vsyntax.specs.Symbols.{Symbol}
-use Rattle.hold_vsyntax.specs.Gives.{Gives}
+use Rattle.hold_vsyntax.specs.inner.Gives.{Gives}
 
 fails : {X Y : Type 0} (e : Stop BadPiece) (read : Option (X × List Symbol)) (u : List Symbol) (total : Option (Y × List Symbol)) (v : List Symbol)
     → Gives {X = X} (Err e) read u → (read ≡ None → total ≡ None) → Gives {X = Y} (Err e) total v

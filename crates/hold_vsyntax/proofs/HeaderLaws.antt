@@ -1,6 +1,8 @@
 -- The piece that opens a module is read as it is written, and written as it is read.
 use Rattle.std.proofs.Common.{◌≡◌, List, [], ◌∷◌, ◌++◌, drop, refl, sym, ap, true, false, ◌∙◌, ◌⊎◌, inl, inr, append_assoc}
 use Rattle.std.specs.Prelude.{Option, Some, None}
+use Rattle.hold_base.proofs.Bools.{cond-cases}
+use Rattle.hold_base.proofs.Options.{option_and_then-Some}
 use Rattle.hold_netlist.specs.declared.wire.Direction.{Direction}
 use Rattle.hold_netlist.specs.declared.wire.Direction.TheVariants.{Input as InputPort, Output as OutputPort}
 use Rattle.hold_vsyntax.specs.declared.mark.Mark.TheVariants.{Module as TheModule, Comma, Semicolon, LeftBracket, LeftParenthesis, RightParenthesis}
@@ -11,8 +13,8 @@ use Rattle.hold_vsyntax.specs.declared.tree.Header.{Header}
 use Rattle.hold_vsyntax.specs.declared.tree.Header.TheVariants.{Bare, Plain, Declared}
 use Rattle.hold_vsyntax.specs.Symbols.{Symbol, Marked, Named}
 use Rattle.hold_vsyntax.specs.Grammar.{separated, listed, name_symbols, direction_mark, wire_symbols, range_symbols, port_symbols, next_port_symbols, header_symbols}
-use Rattle.hold_vsyntax.specs.Reading.{begins, after, more_of, ident_at, idents_at, direction_at, header_port_after, next_port_at, declared_after, plain_at, port_list_by, port_list_after, header_at, opening_at}
-use Rattle.hold_vsyntax.proofs.ReadingLemmas.{bind_ok, cond_ok, ends, begins_is, after_ok, ident_ok, direction_ok, front_ok, more_sound, more_complete, ident_laws}
+use Rattle.hold_vsyntax.specs.inner.Reading.{begins, after, more_of, ident_at, idents_at, direction_at, header_port_after, next_port_at, declared_after, plain_at, port_list_by, port_list_after, header_at, opening_at}
+use Rattle.hold_vsyntax.proofs.ReadingLemmas.{ends, begins_is, after_ok, ident_ok, direction_ok, front_ok, more_sound, more_complete, ident_laws}
 use Rattle.hold_vsyntax.proofs.PortLaws.{header_port_sound, header_port_complete, port_grouped, next_port_laws}
 
 -- what is closed by a mark, and what stands behind it
@@ -25,7 +27,7 @@ closed_twice a b s rest = append_assoc a (b ++ s ∷ []) rest ∙ ap (λ l. a ++
 idents_sound : (ss : List Symbol) (names : List Ident) (rest : List Symbol) → idents_at ss ≡ Some (names, rest) → ss ≡ listed name_symbols names ++ rest
 unfolding idents_at
 idents_sound ss names rest h =
-    let first = bind_ok (ident_at ss) _ (names, rest) h in
+    let first = option_and_then-Some _ (ident_at ss) (names, rest) h in
     let more = front_ok first.0.0 (more_of ident_at first.0.1) (names, rest) first.2 in
     ident_ok ss first.0.0 first.0.1 first.1
     ∙ ap (λ l. Named first.0.0 ∷ l) (more_sound name_symbols ident_at ident_laws first.0.1 more.0.0 more.0.1 more.1)
@@ -40,9 +42,9 @@ declared_sound : (d : Direction) (ss : List Symbol) (h : Header) (rest : List Sy
     → Marked LeftParenthesis ∷ Marked (direction_mark d) ∷ ss ≡ header_symbols h ++ rest
 unfolding declared_after
 declared_sound d ss h rest e =
-    let first = bind_ok (header_port_after d ss) _ (h, rest) e in
-    let more = bind_ok (more_of next_port_at first.0.1) _ (h, rest) first.2 in
-    let end = bind_ok (after RightParenthesis more.0.1) _ (h, rest) more.2 in
+    let first = option_and_then-Some _ (header_port_after d ss) (h, rest) e in
+    let more = option_and_then-Some _ (more_of next_port_at first.0.1) (h, rest) first.2 in
+    let end = option_and_then-Some _ (after RightParenthesis more.0.1) (h, rest) more.2 in
     let front = header_port_sound d ss first.0.0 first.0.1 first.1 in
     let back = more_sound next_port_symbols next_port_at next_port_laws first.0.1 more.0.0 more.0.1 more.1
     ∙ ap (λ l. separated next_port_symbols more.0.0 ++ l) (after_ok RightParenthesis more.0.1 end.0 end.1) in
@@ -53,8 +55,8 @@ declared_sound d ss h rest e =
 plain_sound : (ss : List Symbol) (h : Header) (rest : List Symbol) → plain_at ss ≡ Some (h, rest) → Marked LeftParenthesis ∷ ss ≡ header_symbols h ++ rest
 unfolding plain_at
 plain_sound ss h rest e =
-    let names = bind_ok (idents_at ss) _ (h, rest) e in
-    let end = bind_ok (after RightParenthesis names.0.1) _ (h, rest) names.2 in
+    let names = option_and_then-Some _ (idents_at ss) (h, rest) e in
+    let end = option_and_then-Some _ (after RightParenthesis names.0.1) (h, rest) names.2 in
     ap (λ l. Marked LeftParenthesis ∷ l) (idents_sound ss names.0.0 names.0.1 names.1
     ∙ ap (λ l. listed name_symbols names.0.0 ++ l) (after_ok RightParenthesis names.0.1 end.0 end.1)
     ∙ sym (closed (listed name_symbols names.0.0) (Marked RightParenthesis) end.0))
@@ -63,7 +65,7 @@ plain_sound ss h rest e =
 port_list_sound : (ss : List Symbol) (h : Header) (rest : List Symbol) → port_list_after ss ≡ Some (h, rest)
     → Marked LeftParenthesis ∷ ss ≡ header_symbols h ++ rest
 unfolding port_list_after
-port_list_sound ss h rest e = by (cond_ok (begins RightParenthesis ss) _ _ (Some (h, rest)) e)
+port_list_sound ss h rest e = by (cond-cases (begins RightParenthesis ss) _ _ (Some (h, rest)) e)
   where
     or : (o : Option (Direction × List Symbol)) → direction_at ss ≡ o → port_list_by o ss ≡ Some (h, rest) → Marked LeftParenthesis ∷ ss ≡ header_symbols h ++ rest
     or (Some d) is k = ap (λ l. Marked LeftParenthesis ∷ l) (direction_ok ss d.0 d.1 is) ∙ declared_sound d.0 d.1 h rest k
@@ -76,7 +78,7 @@ port_list_sound ss h rest e = by (cond_ok (begins RightParenthesis ss) _ _ (Some
 
 header_sound : (ss : List Symbol) (h : Header) (rest : List Symbol) → header_at ss ≡ Some (h, rest) → ss ≡ header_symbols h ++ rest
 unfolding header_at
-header_sound ss h rest e = by (cond_ok (begins LeftParenthesis ss) _ _ (Some (h, rest)) e)
+header_sound ss h rest e = by (cond-cases (begins LeftParenthesis ss) _ _ (Some (h, rest)) e)
   where
     by : ((begins LeftParenthesis ss ≡ true) × (port_list_after (drop 1 ss) ≡ Some (h, rest)))
         ⊎ ((begins LeftParenthesis ss ≡ false) × (◌≡◌ {A = Option (Header × List Symbol)} (Some (Bare, ss)) (Some (h, rest)))) → ss ≡ header_symbols h ++ rest
@@ -129,10 +131,10 @@ pub opening_sound : (ss : List Symbol) (name : Ident) (h : Header) (rest : List 
     → ss ≡ opening_piece name h ++ rest
 unfolding opening_at
 opening_sound ss name h rest e =
-    let start = bind_ok (after TheModule ss) _ ((name, h), rest) e in
-    let i = bind_ok (ident_at start.0) _ ((name, h), rest) start.2 in
-    let header = bind_ok (header_at i.0.1) _ ((name, h), rest) i.2 in
-    let end = bind_ok (after Semicolon header.0.1) _ ((name, h), rest) header.2 in
+    let start = option_and_then-Some _ (after TheModule ss) ((name, h), rest) e in
+    let i = option_and_then-Some _ (ident_at start.0) ((name, h), rest) start.2 in
+    let header = option_and_then-Some _ (header_at i.0.1) ((name, h), rest) i.2 in
+    let end = option_and_then-Some _ (after Semicolon header.0.1) ((name, h), rest) header.2 in
     let first = after_ok TheModule ss start.0 start.1 in
     let second = ident_ok start.0 i.0.0 i.0.1 i.1 in
     let front : ss ≡ Marked TheModule ∷ Named i.0.0 ∷ i.0.1 = cc in

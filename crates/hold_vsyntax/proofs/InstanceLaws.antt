@@ -2,6 +2,8 @@
 use Rattle.std.proofs.Common.{◌≡◌, List, [], ◌∷◌, ◌++◌, drop, refl, sym, ap, Bool, true, false, ◌∙◌, ◌⊎◌, inl, inr, append_assoc}
 use Rattle.std.specs.Prelude.{Option, Some, None}
 use Rattle.std.specs.Option.{option_and_then}
+use Rattle.hold_base.proofs.Bools.{cond-cases}
+use Rattle.hold_base.proofs.Options.{option_and_then-Some}
 use Rattle.hold_vsyntax.specs.declared.mark.Mark.TheVariants.{Dot, LeftBracket, RightBracket, LeftParenthesis, RightParenthesis}
 use Rattle.hold_vsyntax.specs.declared.tree.Ident.{Ident}
 use Rattle.hold_vsyntax.specs.declared.tree.Tied.{Tied}
@@ -10,16 +12,16 @@ use Rattle.hold_vsyntax.specs.declared.tree.Connection.{Connection}
 use Rattle.hold_vsyntax.specs.declared.tree.Instance.{Instance}
 use Rattle.hold_vsyntax.specs.Symbols.{Symbol, Marked, Named, Counted}
 use Rattle.hold_vsyntax.specs.Grammar.{separated, listed, tied_symbols, connection_symbols, instance_symbols}
-use Rattle.hold_vsyntax.specs.Reading.{with_front, begins, after, more_of, ident_at, number_at, constant_at, bit_after, tied_net_at, tied_by, tied_at, connection_at, connections_at, instance_at}
+use Rattle.hold_vsyntax.specs.inner.Reading.{with_front, begins, after, more_of, ident_at, number_at, constant_at, bit_after, tied_net_at, tied_by, tied_at, connection_at, connections_at, instance_at}
 use Rattle.hold_vsyntax.proofs.HeaderLaws.{closed}
-use Rattle.hold_vsyntax.proofs.ReadingLemmas.{bind_ok, cond_ok, ends, begins_is, after_ok, number_ok, ident_ok, constant_ok, Spells, more_sound, more_complete, front_ok, shrinks, Shrinks}
+use Rattle.hold_vsyntax.proofs.ReadingLemmas.{ends, begins_is, after_ok, number_ok, ident_ok, constant_ok, Spells, more_sound, more_complete, front_ok, shrinks, Shrinks}
 
 bit_sound : (name : Ident) (ss : List Symbol) (t : Tied) (rest : List Symbol) → bit_after name ss ≡ Some (t, rest)
     → Named name ∷ Marked LeftBracket ∷ ss ≡ tied_symbols t ++ rest
 unfolding bit_after
 bit_sound name ss t rest h =
-    let index = bind_ok (number_at ss) _ (t, rest) h in
-    let close = bind_ok (after RightBracket index.0.1) _ (t, rest) index.2 in
+    let index = option_and_then-Some _ (number_at ss) (t, rest) h in
+    let close = option_and_then-Some _ (after RightBracket index.0.1) (t, rest) index.2 in
     let first = number_ok ss index.0.0 index.0.1 index.1 in
     let second = after_ok RightBracket index.0.1 close.0 close.1 in
     let whole : ss ≡ Counted index.0.0 ∷ Marked RightBracket ∷ close.0 = cc in
@@ -28,8 +30,8 @@ bit_sound name ss t rest h =
 tied_net_sound : (ss : List Symbol) (t : Tied) (rest : List Symbol) → tied_net_at ss ≡ Some (t, rest) → ss ≡ tied_symbols t ++ rest
 unfolding tied_net_at
 tied_net_sound ss t rest h =
-    let name = bind_ok (ident_at ss) _ (t, rest) h in
-    by name.0.0 name.0.1 (ident_ok ss name.0.0 name.0.1 name.1) (cond_ok (begins LeftBracket name.0.1) _ _ (Some (t, rest)) name.2)
+    let name = option_and_then-Some _ (ident_at ss) (t, rest) h in
+    by name.0.0 name.0.1 (ident_ok ss name.0.0 name.0.1 name.1) (cond-cases (begins LeftBracket name.0.1) _ _ (Some (t, rest)) name.2)
   where
     by : (i : Ident) (u : List Symbol) → ss ≡ Named i ∷ u
         → ((begins LeftBracket u ≡ true) × (bit_after i (drop 1 u) ≡ Some (t, rest)))
@@ -40,7 +42,7 @@ tied_net_sound ss t rest h =
 
 tied_sound : (ss : List Symbol) (t : Tied) (rest : List Symbol) → tied_at ss ≡ Some (t, rest) → ss ≡ tied_symbols t ++ rest
 unfolding tied_at
-tied_sound ss t rest h = by (cond_ok (begins RightParenthesis ss) _ _ (Some (t, rest)) h)
+tied_sound ss t rest h = by (cond-cases (begins RightParenthesis ss) _ _ (Some (t, rest)) h)
   where
     or : (o : Option (Bool × List Symbol)) → constant_at ss ≡ o → tied_by o ss ≡ Some (t, rest) → ss ≡ tied_symbols t ++ rest
     or (Some b) e k = constant_ok ss b.0 b.1 e ∙ ends tied_symbols (Constant b.0) t b.1 rest k
@@ -61,11 +63,11 @@ tied_complete (Constant b) rest = refl
 connection_sound : (ss : List Symbol) (c : Connection) (rest : List Symbol) → connection_at ss ≡ Some (c, rest) → ss ≡ connection_symbols c ++ rest
 unfolding connection_at
 connection_sound ss c rest h =
-    let dot = bind_ok (after Dot ss) _ (c, rest) h in
-    let pin = bind_ok (ident_at dot.0) _ (c, rest) dot.2 in
-    let inside = bind_ok (after LeftParenthesis pin.0.1) _ (c, rest) pin.2 in
-    let tied = bind_ok (tied_at inside.0) _ (c, rest) inside.2 in
-    let end = bind_ok (after RightParenthesis tied.0.1) _ (c, rest) tied.2 in
+    let dot = option_and_then-Some _ (after Dot ss) (c, rest) h in
+    let pin = option_and_then-Some _ (ident_at dot.0) (c, rest) dot.2 in
+    let inside = option_and_then-Some _ (after LeftParenthesis pin.0.1) (c, rest) pin.2 in
+    let tied = option_and_then-Some _ (tied_at inside.0) (c, rest) inside.2 in
+    let end = option_and_then-Some _ (after RightParenthesis tied.0.1) (c, rest) tied.2 in
     let first = after_ok Dot ss dot.0 dot.1 in
     let second = ident_ok dot.0 pin.0.0 pin.0.1 pin.1 in
     let third = after_ok LeftParenthesis pin.0.1 inside.0 inside.1 in
@@ -86,7 +88,7 @@ connection_laws = record { sound = connection_sound; complete = λ c rest h. con
 
 connections_sound : (ss : List Symbol) (cs : List Connection) (rest : List Symbol) → connections_at ss ≡ Some (cs, rest) → ss ≡ listed connection_symbols cs ++ rest
 unfolding connections_at
-connections_sound ss cs rest h = by (cond_ok (begins RightParenthesis ss) _ _ (Some (cs, rest)) h)
+connections_sound ss cs rest h = by (cond-cases (begins RightParenthesis ss) _ _ (Some (cs, rest)) h)
   where
     then_more : Connection × List Symbol → Option (List Connection × List Symbol)
     then_more c = with_front (c.0 ∷ []) (more_of connection_at c.1)
@@ -95,7 +97,7 @@ connections_sound ss cs rest h = by (cond_ok (begins RightParenthesis ss) _ _ (S
         ⊎ ((begins RightParenthesis ss ≡ false) × (option_and_then then_more (connection_at ss) ≡ Some (cs, rest))) → ss ≡ listed connection_symbols cs ++ rest
     by (inl e) = ends (listed connection_symbols) [] cs ss rest e.1
     by (inr e) =
-        let first = bind_ok (connection_at ss) then_more (cs, rest) e.1 in
+        let first = option_and_then-Some then_more (connection_at ss) (cs, rest) e.1 in
         let more = front_ok first.0.0 (more_of connection_at first.0.1) (cs, rest) first.2 in
         connection_sound ss first.0.0 first.0.1 first.1
         ∙ ap (λ l. connection_symbols first.0.0 ++ l) (more_sound connection_symbols connection_at connection_laws first.0.1 more.0.0 more.0.1 more.1)
@@ -116,10 +118,10 @@ connections_complete (c ∷ cs) rest =
 instance_sound : (ss : List Symbol) (i : Instance) (rest : List Symbol) → instance_at ss ≡ Some (i, rest) → ss ≡ instance_symbols i ++ rest
 unfolding instance_at
 instance_sound ss i rest h =
-    let name = bind_ok (ident_at ss) _ (i, rest) h in
-    let inside = bind_ok (after LeftParenthesis name.0.1) _ (i, rest) name.2 in
-    let cs = bind_ok (connections_at inside.0) _ (i, rest) inside.2 in
-    let end = bind_ok (after RightParenthesis cs.0.1) _ (i, rest) cs.2 in
+    let name = option_and_then-Some _ (ident_at ss) (i, rest) h in
+    let inside = option_and_then-Some _ (after LeftParenthesis name.0.1) (i, rest) name.2 in
+    let cs = option_and_then-Some _ (connections_at inside.0) (i, rest) inside.2 in
+    let end = option_and_then-Some _ (after RightParenthesis cs.0.1) (i, rest) cs.2 in
     let first = ident_ok ss name.0.0 name.0.1 name.1 in
     let second = after_ok LeftParenthesis name.0.1 inside.0 inside.1 in
     let front : ss ≡ Named name.0.0 ∷ Marked LeftParenthesis ∷ inside.0 = cc in

@@ -1,6 +1,8 @@
 -- The piece of a statement is read as it is written, and written as it is read.
 use Rattle.std.proofs.Common.{◌≡◌, List, ◌∷◌, ◌++◌, drop, refl, sym, ap, cond, true, false, ◌∙◌, ◌⊎◌, inl, inr, append_assoc}
 use Rattle.std.specs.Prelude.{Option, Some, None}
+use Rattle.hold_base.proofs.Bools.{cond-cases}
+use Rattle.hold_base.proofs.Options.{option_and_then-Some}
 use Rattle.hold_netlist.specs.declared.wire.Direction.{Direction}
 use Rattle.hold_netlist.specs.declared.wire.Direction.TheVariants.{Input as InputPort, Output as OutputPort}
 use Rattle.hold_vsyntax.specs.declared.mark.Mark.TheVariants.{Wire, Assign, Semicolon}
@@ -13,8 +15,8 @@ use Rattle.hold_vsyntax.specs.declared.tree.Item.{Item}
 use Rattle.hold_vsyntax.specs.declared.tree.Item.TheVariants.{Ports, Wires, Assignments, Instances as InstancesOf}
 use Rattle.hold_vsyntax.specs.Symbols.{Symbol, Marked, Named}
 use Rattle.hold_vsyntax.specs.Grammar.{separated, several, name_symbols, direction_mark, wire_symbols, range_symbols, assignment_symbols, instance_symbols, item_symbols, item_piece}
-use Rattle.hold_vsyntax.specs.Reading.{begins, behind, after, several_at, ident_at, direction_at, range_at, assignment_at, instance_at, body_ports_after, body_wires_after, assignments_after, instances_at, statement_by, statement_at, item_at}
-use Rattle.hold_vsyntax.proofs.ReadingLemmas.{bind_ok, cond_ok, ends, begins_is, after_ok, ident_ok, direction_ok, wire_ok, several_sound, several_complete, ident_laws}
+use Rattle.hold_vsyntax.specs.inner.Reading.{begins, behind, after, several_at, ident_at, direction_at, range_at, assignment_at, instance_at, body_ports_after, body_wires_after, assignments_after, instances_at, statement_by, statement_at, item_at}
+use Rattle.hold_vsyntax.proofs.ReadingLemmas.{ends, begins_is, after_ok, ident_ok, direction_ok, wire_ok, several_sound, several_complete, ident_laws}
 use Rattle.hold_vsyntax.proofs.RangeLaws.{range_sound, range_complete}
 use Rattle.hold_vsyntax.proofs.PartLaws.{assignment_laws}
 use Rattle.hold_vsyntax.proofs.InstanceLaws.{instance_laws}
@@ -25,8 +27,8 @@ body_ports_sound : (d : Direction) (ss : List Symbol) (i : Item) (rest : List Sy
     → Marked (direction_mark d) ∷ ss ≡ item_symbols i ++ rest
 unfolding body_ports_after
 body_ports_sound d ss i rest h =
-    let range = bind_ok (range_at (behind Wire ss)) _ (i, rest) h in
-    let names = bind_ok (several_at ident_at range.0.1) _ (i, rest) range.2 in
+    let range = option_and_then-Some _ (range_at (behind Wire ss)) (i, rest) h in
+    let names = option_and_then-Some _ (several_at ident_at range.0.1) (i, rest) range.2 in
     let w = wire_symbols (begins Wire ss) in
     let r = range_symbols range.0.0 in
     let n = several name_symbols names.0.0 in
@@ -53,8 +55,8 @@ body_ports_complete p rest =
 body_wires_sound : (ss : List Symbol) (i : Item) (rest : List Symbol) → body_wires_after ss ≡ Some (i, rest) → Marked Wire ∷ ss ≡ item_symbols i ++ rest
 unfolding body_wires_after
 body_wires_sound ss i rest h =
-    let range = bind_ok (range_at ss) _ (i, rest) h in
-    let names = bind_ok (several_at ident_at range.0.1) _ (i, rest) range.2 in
+    let range = option_and_then-Some _ (range_at ss) (i, rest) h in
+    let names = option_and_then-Some _ (several_at ident_at range.0.1) (i, rest) range.2 in
     let r = range_symbols range.0.0 in
     let n = several name_symbols names.0.0 in
     ap (λ l. Marked Wire ∷ l) (range_sound ss range.0.0 range.0.1 range.1
@@ -74,7 +76,7 @@ body_wires_complete w rest =
 assignments_sound : (ss : List Symbol) (i : Item) (rest : List Symbol) → assignments_after ss ≡ Some (i, rest) → Marked Assign ∷ ss ≡ item_symbols i ++ rest
 unfolding assignments_after
 assignments_sound ss i rest h =
-    let s = bind_ok (several_at assignment_at ss) _ (i, rest) h in
+    let s = option_and_then-Some _ (several_at assignment_at ss) (i, rest) h in
     ap (λ l. Marked Assign ∷ l) (several_sound assignment_symbols assignment_at assignment_laws ss s.0.0 s.0.1 s.1)
     ∙ ends item_symbols (Assignments s.0.0) i s.0.1 rest s.2
 
@@ -86,8 +88,8 @@ assignments_complete s rest = rw (several_complete assignment_symbols assignment
 instances_sound : (ss : List Symbol) (i : Item) (rest : List Symbol) → instances_at ss ≡ Some (i, rest) → ss ≡ item_symbols i ++ rest
 unfolding instances_at
 instances_sound ss i rest h =
-    let kind = bind_ok (ident_at ss) _ (i, rest) h in
-    let s = bind_ok (several_at instance_at kind.0.1) _ (i, rest) kind.2 in
+    let kind = option_and_then-Some _ (ident_at ss) (i, rest) h in
+    let s = option_and_then-Some _ (several_at instance_at kind.0.1) (i, rest) kind.2 in
     ident_ok ss kind.0.0 kind.0.1 kind.1
     ∙ ap (λ l. Named kind.0.0 ∷ l) (several_sound instance_symbols instance_at instance_laws kind.0.1 s.0.0 s.0.1 s.1)
     ∙ ends item_symbols (InstancesOf (record { kind = kind.0.0; list = s.0.0 })) i s.0.1 rest s.2
@@ -109,11 +111,11 @@ statement_sound ss i rest h = by (direction_at ss) refl h
     undirected : ((begins Wire ss ≡ true) × (body_wires_after (drop 1 ss) ≡ Some (i, rest)))
         ⊎ ((begins Wire ss ≡ false) × (cond (begins Assign ss) (assignments_after (drop 1 ss)) (instances_at ss) ≡ Some (i, rest))) → ss ≡ item_symbols i ++ rest
     undirected (inl k) = begins_is Wire ss k.0 ∙ body_wires_sound (drop 1 ss) i rest k.1
-    undirected (inr k) = or (cond_ok (begins Assign ss) _ _ (Some (i, rest)) k.1)
+    undirected (inr k) = or (cond-cases (begins Assign ss) _ _ (Some (i, rest)) k.1)
 
     by : (o : Option (Direction × List Symbol)) → direction_at ss ≡ o → statement_by o ss ≡ Some (i, rest) → ss ≡ item_symbols i ++ rest
     by (Some d) e k = direction_ok ss d.0 d.1 e ∙ body_ports_sound d.0 d.1 i rest k
-    by None e k = undirected (cond_ok (begins Wire ss) _ _ (Some (i, rest)) k)
+    by None e k = undirected (cond-cases (begins Wire ss) _ _ (Some (i, rest)) k)
 
 -- a statement that begins with a direction
 statement_directed : (d : Direction) (ss : List Symbol) → statement_at (Marked (direction_mark d) ∷ ss) ≡ body_ports_after d ss
@@ -136,8 +138,8 @@ statement_complete (InstancesOf x) rest = instances_complete x rest
 pub item_sound : (ss : List Symbol) (i : Item) (rest : List Symbol) → item_at ss ≡ Some (i, rest) → ss ≡ item_piece i ++ rest
 unfolding item_at
 item_sound ss i rest h =
-    let s = bind_ok (statement_at ss) _ (i, rest) h in
-    let end = bind_ok (after Semicolon s.0.1) _ (i, rest) s.2 in
+    let s = option_and_then-Some _ (statement_at ss) (i, rest) h in
+    let end = option_and_then-Some _ (after Semicolon s.0.1) (i, rest) s.2 in
     statement_sound ss s.0.0 s.0.1 s.1 ∙ ap (λ l. item_symbols s.0.0 ++ l) (after_ok Semicolon s.0.1 end.0 end.1)
     ∙ sym (closed (item_symbols s.0.0) (Marked Semicolon) end.0) ∙ ends item_piece s.0.0 i end.0 rest end.2
 

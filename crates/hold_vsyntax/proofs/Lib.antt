@@ -1,4 +1,4 @@
-pub mod AllLemmas
+pub mod MarkLemmas
 pub mod NumberLemmas
 pub mod TokenLemmas
 pub mod ReadingLemmas

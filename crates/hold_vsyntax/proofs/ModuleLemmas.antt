@@ -4,6 +4,7 @@ use Rattle.std.specs.Prelude.{Some, None, Result, Err}
 use Rattle.std.specs.Result.{IsErrAnd}
 use Rattle.std.proofs.lemmas.List.{append-nil, map-append}
 use Rattle.std.proofs.lemmas.Result.{err_from_is_err_and}
+use Rattle.hold_base.specs.Answers.{IfFault, IfStopFault}
 use Rattle.hold_base.specs.declared.stop.Stop.{Stop}
 use Rattle.hold_base.specs.declared.stop.Stop.TheVariants.{Memory, Fault}
 use Rattle.hold_vlex.specs.Lexed.{Lexeme}
@@ -17,13 +18,12 @@ use Rattle.hold_vsyntax.specs.declared.tree.Item.{Item}
 use Rattle.hold_vsyntax.specs.declared.tree.Module.{Module}
 use Rattle.hold_vsyntax.specs.Symbols.{Symbol, symbols, ident}
 use Rattle.hold_vsyntax.specs.Pieces.{pieces}
-use Rattle.hold_vsyntax.specs.Passing.{first_piece, rest_behind}
+use Rattle.hold_vsyntax.specs.inner.Passing.{first_piece, rest_behind}
 use Rattle.hold_vsyntax.specs.Grammar.{header_piece, item_piece, end_piece, pieces_of}
-use Rattle.hold_vsyntax.specs.Reading.{begins, opening_at}
+use Rattle.hold_vsyntax.specs.inner.Reading.{begins, opening_at}
 use Rattle.hold_vsyntax.specs.Text.{IsModule, IsPieceFault, EndsEarly}
-use Rattle.hold_vsyntax.specs.Body.{blamed_at_front, Blames, Stops, IsBody, IsBodyFault}
-use Rattle.hold_vsyntax.specs.Answers.{StopsBy, Faults}
-use Rattle.hold_vsyntax.specs.Whole.{IsModuleFault}
+use Rattle.hold_vsyntax.specs.inner.Body.{blamed_at_front, Blames, Stops, IsBody, IsBodyFault}
+use Rattle.hold_vsyntax.specs.inner.Whole.{IsModuleFault}
 use Rattle.hold_vsyntax.proofs.PieceLaws.{cut_piece, item_not_closing, opening_first}
 use Rattle.hold_vsyntax.proofs.StepLemmas.{symbols_cut}
 use Rattle.hold_vsyntax.proofs.HeaderLaws.{opening_piece, opening_sound, opening_complete}
@@ -93,7 +93,7 @@ no_tokens = record {
 }
 
 pub opening_stops : (ts : List Lexeme) (end : ℕ) (stop : Stop SyntaxFault) → ts ≢ [] → opening_at (symbols ts) ≡ None → Blames stop (blamed_at_front ts)
-    → StopsBy stop (IsModuleFault ts end)
+    → IfStopFault stop (IsModuleFault ts end)
 opening_stops ts end Memory some none h = tt
 opening_stops ts end (Fault f) some none h = inl (opening_bad ts f some none h)
 
@@ -213,18 +213,18 @@ body_stopped (t ∷ ts) ahead new name header rest end fault same read passed st
 
 -- what is passed on
 passed_on : {X : Type 0} (r : Result X (Stop SyntaxFault)) (e : Stop SyntaxFault) (P Q : SyntaxFault → Type 0) → IsErrAnd r (λ y. y ≡ e)
-    → StopsBy e P → ((f : SyntaxFault) → P f → Q f) → Faults r Q
+    → IfStopFault e P → ((f : SyntaxFault) → P f → Q f) → IfFault r Q
 passed_on {X} r e P Q is h imply =
     let p = err_from_is_err_and r is in
-    subst (λ (z : Result X (Stop SyntaxFault)). Faults z Q) (sym (p.1 ∙ ap (λ z. Err z) p.2)) (by e h)
+    subst (λ (z : Result X (Stop SyntaxFault)). IfFault z Q) (sym (p.1 ∙ ap (λ z. Err z) p.2)) (by e h)
   where
-    by : (s : Stop SyntaxFault) → StopsBy s P → StopsBy s Q
+    by : (s : Stop SyntaxFault) → IfStopFault s P → IfStopFault s Q
     by Memory k = tt
     by (Fault f) k = imply f k
 
 pub module_stopped : (r : Result Module (Stop SyntaxFault)) (e : Stop SyntaxFault) (ts ahead new : List Lexeme) (name : Ident) (header : Header) (rest : List Symbol) (end : ℕ)
-    → IsErrAnd r (λ y. y ≡ e) → StopsBy e (IsBodyFault (pieces new) end) → ahead ≡ ts → opening_at (symbols ahead) ≡ Some ((name, header), rest) → new ≡ rest_behind ts
-    → Faults r (IsModuleFault ts end)
+    → IsErrAnd r (λ y. y ≡ e) → IfStopFault e (IsBodyFault (pieces new) end) → ahead ≡ ts → opening_at (symbols ahead) ≡ Some ((name, header), rest) → new ≡ rest_behind ts
+    → IfFault r (IsModuleFault ts end)
 module_stopped r e ts ahead new name header rest end is stops same read passed =
     passed_on r e (IsBodyFault (pieces new) end) (IsModuleFault ts end) is stops
     (λ f h. body_stopped ts ahead new name header rest end f same read passed h)

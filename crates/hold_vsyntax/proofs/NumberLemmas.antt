@@ -5,13 +5,19 @@ use Rattle.std.specs.Fmt.{decimal}
 use Rattle.std.specs.List.{list_all}
 use Rattle.std.specs.Prelude.{IsTrue}
 use Rattle.std.specs.Str.Parse.{AllDigits, digits_value, digits_value_after}
-use Rattle.std.proofs.lemmas.Bool.Decides.{nat_tests}
 use Rattle.std.proofs.lemmas.Fmt.{decimal_is_IsNumeral}
 use Rattle.std.proofs.lemmas.Str.{digit_value_digit}
 use Rattle.std.proofs.lemmas.Str.Parse.{digit_from_value}
-use Rattle.hold_vsyntax.specs.Number.{number_from, number_of, value_of}
+use Rattle.hold_base.specs.Digits.{number_of}
+use Rattle.hold_base.specs.inner.Digits.{number_from}
+use Rattle.hold_base.proofs.Digits.{is_ascii_digit-within, number_from-is}
+use Rattle.hold_vsyntax.specs.inner.Number.{value_of}
 use Rattle.hold_vsyntax.specs.declared.number.Kept.{Kept}
 use Rattle.hold_vsyntax.specs.declared.number.Kept.TheVariants.{Small}
+
+-- digits behind nothing
+pub number_from-zero : (digits : List ℕ) → number_from 0 digits ≡ number_of digits
+number_from-zero digits = omega (arith, number_from-is 0 digits)
 
 -- more digits don't make a number less
 number_from_grows : (n : ℕ) (digits : List ℕ) → n ≤ number_from n digits
@@ -39,11 +45,11 @@ number_from-digits n (d ∷ ds) h =
     ap (λ (m : ℕ). number_from m ds) value ∙ number_from-digits (n * 10 + digit_value d) ds h.1
 
 pub number_of-digits : (digits : List ℕ) → AllDigits 10 digits → number_of digits ≡ digits_value 10 digits
-number_of-digits digits h = number_from-digits 0 digits h
+number_of-digits digits h = sym (number_from-zero digits) ∙ number_from-digits 0 digits h
 
 -- decimal digits as bytes
 pub is_digit-from_value : (c : ℕ) → digit_value c < 10 → is_ascii_digit c ≡ true
-is_digit-from_value c h = let bounds = digit_from_value c h in grind (arith, nat_tests)
+is_digit-from_value c h = let bounds = digit_from_value c h in is_ascii_digit-within c bounds.0 bounds.1
 
 pub all-digits : (ds : List ℕ) → AllDigits 10 ds → list_all is_ascii_digit ds ≡ true
 all-digits [] h = refl

@@ -3,6 +3,7 @@ use Rattle.std.proofs.Common.{◌≡◌, ℕ, List, [], ◌∷◌, ◌++◌, map
 use Rattle.std.specs.Prelude.{Option, Some, None, Result, Ok, Err, IfOk}
 use Rattle.std.proofs.lemmas.List.{append-nil, map-append}
 use Rattle.std.proofs.lemmas.Option.{some_pair_parts}
+use Rattle.hold_base.specs.Answers.{Answers, IfFault}
 use Rattle.hold_base.specs.declared.stop.Stop.{Stop}
 use Rattle.hold_base.specs.declared.stop.Stop.TheVariants.{Memory, Fault}
 use Rattle.hold_vlex.specs.Lexed.{Lexeme, lexed}
@@ -16,9 +17,8 @@ use Rattle.hold_vsyntax.specs.declared.tree.Module.{Module}
 use Rattle.hold_vsyntax.specs.Symbols.{symbols}
 use Rattle.hold_vsyntax.specs.Pieces.{pieces}
 use Rattle.hold_vsyntax.specs.Grammar.{header_piece, item_piece, end_piece, pieces_of}
-use Rattle.hold_vsyntax.specs.Reading.{opening_at, item_at}
+use Rattle.hold_vsyntax.specs.inner.Reading.{opening_at, item_at}
 use Rattle.hold_vsyntax.specs.Text.{IsModule, CanStand, IsFirstBad, IsPieceFault, blame, left_out_in}
-use Rattle.hold_vsyntax.specs.Answers.{Answers, AnswersFault, Faults}
 use Rattle.hold_vsyntax.specs.SyntaxTree.{IsTree, IsSyntaxFault}
 use Rattle.hold_vsyntax.proofs.HeaderLaws.{opening_complete}
 use Rattle.hold_vsyntax.proofs.ItemLaws.{item_complete}
@@ -123,12 +123,12 @@ one_fault text f g (inr (inr a)) (inr (inl b)) = absurd (bad_in_whole (lexed tex
 one_fault text f g (inr (inr a)) (inr (inr b)) = a.named ∙ sym b.named
 
 -- so the answer is the one that there is
-pub only_tree : (text : List ℕ) (r : Result Module (Stop SyntaxFault)) (m : Module) → IfOk r (IsTree text) → Faults r (IsSyntaxFault text) → IsTree text m → Answers r m
-only_tree text (Ok n) m read refused is = one_tree text n m read is
+pub only_tree : (text : List ℕ) (r : Result Module (Stop SyntaxFault)) (m : Module) → IfOk r (IsTree text) → IfFault r (IsSyntaxFault text) → IsTree text m → Answers r (Ok m)
+only_tree text (Ok n) m read refused is = ap (λ x. Ok x) (one_tree text m n is read)
 only_tree text (Err Memory) m read refused is = tt
-only_tree text (Err (Fault f)) m read refused is = tree_or_fault text m f is refused
+only_tree text (Err (Fault f)) m read refused is = absurd (tree_or_fault text m f is refused)
 
-pub only_fault : (text : List ℕ) (r : Result Module (Stop SyntaxFault)) (f : SyntaxFault) → IfOk r (IsTree text) → Faults r (IsSyntaxFault text) → IsSyntaxFault text f → AnswersFault r f
-only_fault text (Ok n) f read refused is = tree_or_fault text n f read is
+pub only_fault : (text : List ℕ) (r : Result Module (Stop SyntaxFault)) (f : SyntaxFault) → IfOk r (IsTree text) → IfFault r (IsSyntaxFault text) → IsSyntaxFault text f → Answers r (Err f)
+only_fault text (Ok n) f read refused is = absurd (tree_or_fault text n f read is)
 only_fault text (Err Memory) f read refused is = tt
-only_fault text (Err (Fault g)) f read refused is = one_fault text g f refused is
+only_fault text (Err (Fault g)) f read refused is = ap (λ x. Err x) (one_fault text f g is refused)

@@ -7,10 +7,12 @@ use Rattle.std.specs.declared.cmp.Ordering.{Ordering}
 use Rattle.std.specs.declared.cmp.Ordering.TheVariants.{Less, Equal, Greater}
 use Rattle.std.proofs.lemmas.Bool.{cases_Bool, cases_lt, ltb-true, ltb-false}
 use Rattle.std.proofs.lemmas.List.{length-map}
+use Rattle.hold_base.specs.inner.Digits.{number_from}
 use Rattle.hold_vsyntax.specs.declared.number.Kept.{Kept}
 use Rattle.hold_vsyntax.specs.declared.number.Kept.TheVariants.{Small, Digits}
-use Rattle.hold_vsyntax.specs.Number.{value_of, number_from}
-use Rattle.hold_vsyntax.specs.NumberOrder.{digits_of, digit, last_sums, horner, is_equal, is_not_greater}
+use Rattle.hold_vsyntax.specs.inner.Number.{value_of}
+use Rattle.hold_vsyntax.proofs.NumberLemmas.{number_from-zero}
+use Rattle.hold_vsyntax.specs.inner.NumberOrder.{digits_of, digit, last_sums, horner, is_equal, is_not_greater}
 
 -- the digits write the number
 pub number_from-horner : (n : ℕ) (ds : List ℕ) → number_from n ds ≡ horner n (map (λ d. d - 48) ds)
@@ -19,7 +21,7 @@ number_from-horner n (d ∷ ds) = number_from-horner (n * 10 + (d - 48)) ds
 
 pub value_of-horner : (k : Kept) → value_of k ≡ horner 0 (digits_of k)
 value_of-horner (Small n) = omega arith
-value_of-horner (Digits ds) = number_from-horner 0 ds
+value_of-horner (Digits ds) = sym (number_from-zero ds) ∙ number_from-horner 0 ds
 
 -- the last places of a number
 unfoldable pub padded : ℕ → List ℕ → List ℕ

@@ -2,6 +2,7 @@
 use Rattle.std.proofs.Common.{◌≡◌, List, [], ◌∷◌, ◌++◌, length, refl, ap, cond, Bool, true, false, ◌∙◌, ◌<◌, ◌≤◌, arith}
 use Rattle.std.specs.Prelude.{Option, Some, None}
 use Rattle.std.specs.List.{AllByRecursion}
+use Rattle.hold_base.proofs.Lists.{AllByRecursion-append}
 use Rattle.hold_netlist.specs.declared.wire.Direction.{Direction}
 use Rattle.hold_netlist.specs.declared.wire.Direction.TheVariants.{Input as InputPort, Output as OutputPort}
 use Rattle.hold_vlex.specs.Lexed.{Lexeme}
@@ -28,11 +29,10 @@ use Rattle.hold_vsyntax.specs.declared.tree.Item.{Item}
 use Rattle.hold_vsyntax.specs.declared.tree.Item.TheVariants.{Ports, Wires, Assignments, Instances}
 use Rattle.hold_vsyntax.specs.Symbols.{Symbol, Marked, Named, Counted, Tied as ConstantBit, Strange, symbol, symbols}
 use Rattle.hold_vsyntax.specs.Pieces.{ends_piece, is_piece, onto, pieces, pieces_within}
-use Rattle.hold_vsyntax.specs.Passing.{first_within, rest_within, first_piece, rest_behind}
-use Rattle.hold_vsyntax.specs.Reading.{begins, is_mark}
+use Rattle.hold_vsyntax.specs.inner.Passing.{first_within, rest_within, first_piece, rest_behind}
+use Rattle.hold_vsyntax.specs.inner.Reading.{begins, is_mark}
 use Rattle.hold_vsyntax.specs.Grammar.{separated, several, listed, name_symbols, wire_symbols, bounds_symbols, range_symbols, direction_mark, port_symbols, next_port_symbols, header_symbols, selected_symbols, part_symbols, right_symbols, assignment_symbols, tied_symbols, connection_symbols, instance_symbols, item_symbols, item_piece}
 use Rattle.hold_vsyntax.proofs.HeaderLaws.{closed, opening_piece}
-use Rattle.hold_vsyntax.proofs.AllLemmas.{all-append}
 
 -- the pieces are the first and those of what is behind it
 cut_within : (ts : List Lexeme) → pieces_within ts ≡ first_within ts ∷ pieces (rest_within ts)
@@ -90,7 +90,7 @@ abbrev NoEnd : List Symbol → Type 0
 NoEnd ss = AllByRecursion (λ (s : Symbol). ends_piece s ≡ false) ss
 
 no_end-append : (a b : List Symbol) → NoEnd a → NoEnd b → NoEnd (a ++ b)
-no_end-append a b h k = all-append (λ (s : Symbol). ends_piece s ≡ false) a b h k
+no_end-append a b h k = AllByRecursion-append (λ (s : Symbol). ends_piece s ≡ false) a b h k
 
 no_end-separated : {X : Type 0} (write : X → List Symbol) → ((x : X) → NoEnd (write x)) → (xs : List X) → NoEnd (separated write xs)
 no_end-separated write h [] = tt

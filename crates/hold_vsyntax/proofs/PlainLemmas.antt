@@ -1,18 +1,14 @@
 -- Plain digits: equal numbers have equal ones.
-use Rattle.std.proofs.Common.{◌≡◌, ◌≢◌, ℕ, ◌+◌, ◌-◌, ◌*◌, ◌<◌, ◌≤◌, true, List, [], ◌∷◌, length, refl, sym, arith, inl, inr}
+use Rattle.std.proofs.Common.{◌≡◌, ◌≢◌, ℕ, ◌+◌, ◌-◌, ◌*◌, ◌<◌, ◌≤◌, List, [], ◌∷◌, length, refl, sym, ◌∙◌, arith, inl, inr}
 use Rattle.std.specs.Prelude.{IsTrue}
 use Rattle.std.specs.Char.{is_ascii_digit}
 use Rattle.std.specs.List.{list_all}
-use Rattle.std.proofs.lemmas.Bool.{and_parts, cases_lt}
-use Rattle.std.proofs.lemmas.Bool.Decides.{nat_tests}
-use Rattle.hold_vsyntax.specs.Number.{number_from, number_of, IsPlain}
-
--- a digit and those behind it
-pub digits-cons : (d : ℕ) (ds : List ℕ) → IsTrue (list_all is_ascii_digit (d ∷ ds)) → (48 ≤ d) × (d ≤ 57) × IsTrue (list_all is_ascii_digit ds)
-digits-cons d ds h =
-    let parts = and_parts (is_ascii_digit d) (list_all is_ascii_digit ds) h in
-    let first : is_ascii_digit d ≡ true = parts.0 in
-    (grind (arith, nat_tests), grind (arith, nat_tests), parts.1)
+use Rattle.std.proofs.lemmas.Bool.{cases_lt}
+use Rattle.hold_base.specs.Digits.{number_of}
+use Rattle.hold_base.specs.inner.Digits.{number_from}
+use Rattle.hold_base.proofs.Digits.{digits-cons}
+use Rattle.hold_vsyntax.specs.Number.{IsPlain}
+use Rattle.hold_vsyntax.proofs.NumberLemmas.{number_from-zero}
 
 -- as many digits, and the same number: the same digits
 same_length : (n m : ℕ) (xs ys : List ℕ) → IsTrue (list_all is_ascii_digit xs) → IsTrue (list_all is_ascii_digit ys) → length xs ≡ length ys
@@ -41,19 +37,23 @@ longer n xs (y ∷ ys) some hx hy l e =
       | inr fewer ↦ longer (n * 10 + (y - 48)) xs ys (omega arith) hx other.2 fewer e
     ]
 
+-- the same said of digits behind nothing
+from_zero : (xs ys : List ℕ) → number_of xs ≡ number_of ys → number_from 0 xs ≡ number_from 0 ys
+from_zero xs ys e = number_from-zero xs ∙ e ∙ sym (number_from-zero ys)
+
 -- so of plain digits the more write the greater number
 plain_longer : (xs ys : List ℕ) → IsTrue (list_all is_ascii_digit xs) → IsPlain ys → length xs < length ys → number_of xs ≢ number_of ys
 plain_longer xs [] hx hy l e = absurd (omega arith)
 plain_longer xs (y ∷ ys) hx hy l e =
     let other = digits-cons y ys hy.digits in
     let apart : y ≢ 48 = hy.first in
-    longer (0 * 10 + (y - 48)) xs ys (omega (arith, other.0)) hx other.2 (omega arith) e
+    longer (0 * 10 + (y - 48)) xs ys (omega (arith, other.0)) hx other.2 (omega arith) (from_zero xs (y ∷ ys) e)
 
 pub plain_same : (xs ys : List ℕ) → IsPlain xs → IsPlain ys → number_of xs ≡ number_of ys → xs ≡ ys
 plain_same xs ys hx hy e = elim (cases_lt (length xs) (length ys)) [
   | inl fewer ↦ absurd (plain_longer xs ys hx.digits hy fewer e)
   | inr more ↦ elim (cases_lt (length ys) (length xs)) [
     | inl fewer ↦ absurd (plain_longer ys xs hy.digits hx fewer (sym e))
-    | inr equal ↦ (same_length 0 0 xs ys hx.digits hy.digits (omega arith) e).1
+    | inr equal ↦ (same_length 0 0 xs ys hx.digits hy.digits (omega arith) (from_zero xs ys e)).1
   ]
 ]

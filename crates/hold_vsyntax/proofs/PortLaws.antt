@@ -1,6 +1,7 @@
 -- A port that is read is written so, and one that is written is read.
 use Rattle.std.proofs.Common.{◌≡◌, List, [], ◌∷◌, ◌++◌, refl, sym, ap, Bool, true, false, ◌∙◌, append_assoc}
 use Rattle.std.specs.Prelude.{Option, Some, None}
+use Rattle.hold_base.proofs.Options.{option_and_then-Some}
 use Rattle.hold_netlist.specs.declared.wire.Direction.{Direction}
 use Rattle.hold_netlist.specs.declared.wire.Direction.TheVariants.{Input as InputPort, Output as OutputPort}
 use Rattle.hold_vsyntax.specs.declared.mark.Mark.TheVariants.{Wire}
@@ -11,8 +12,8 @@ use Rattle.hold_vsyntax.specs.declared.tree.NextPort.{NextPort}
 use Rattle.hold_vsyntax.specs.declared.tree.NextPort.TheVariants.{Declared as DeclaredNext, Alike}
 use Rattle.hold_vsyntax.specs.Symbols.{Symbol, Marked, Named}
 use Rattle.hold_vsyntax.specs.Grammar.{direction_mark, wire_symbols, range_symbols, port_symbols, next_port_symbols}
-use Rattle.hold_vsyntax.specs.Reading.{begins, behind, range_at, ident_at, direction_at, header_port_after, next_port_by, next_port_at}
-use Rattle.hold_vsyntax.proofs.ReadingLemmas.{bind_ok, ends, ident_ok, direction_ok, wire_ok, Spells, Shrinks, shrinks}
+use Rattle.hold_vsyntax.specs.inner.Reading.{begins, behind, range_at, ident_at, direction_at, header_port_after, next_port_by, next_port_at}
+use Rattle.hold_vsyntax.proofs.ReadingLemmas.{ends, ident_ok, direction_ok, wire_ok, Spells, Shrinks, shrinks}
 use Rattle.hold_vsyntax.proofs.RangeLaws.{range_sound, range_complete}
 
 pub direction_complete : (d : Direction) (rest : List Symbol) → direction_at (Marked (direction_mark d) ∷ rest) ≡ Some (d, rest)
@@ -36,8 +37,8 @@ pub header_port_sound : (d : Direction) (ss : List Symbol) (p : HeaderPort) (res
     → Marked (direction_mark d) ∷ ss ≡ port_symbols p ++ rest
 unfolding header_port_after
 header_port_sound d ss p rest h =
-    let range = bind_ok (range_at (behind Wire ss)) _ (p, rest) h in
-    let name = bind_ok (ident_at range.0.1) _ (p, rest) range.2 in
+    let range = option_and_then-Some _ (range_at (behind Wire ss)) (p, rest) h in
+    let name = option_and_then-Some _ (ident_at range.0.1) (p, rest) range.2 in
     let first = wire_ok ss in
     let second = range_sound (behind Wire ss) range.0.0 range.0.1 range.1 in
     let third = ident_ok range.0.1 name.0.0 name.0.1 name.1 in
@@ -74,10 +75,10 @@ next_port_sound ss n rest h = by (direction_at ss) refl h
 
     by : (o : Option (Direction × List Symbol)) → direction_at ss ≡ o → next_port_by o ss ≡ Some (n, rest) → ss ≡ next_port_symbols n ++ rest
     by (Some d) e k =
-        let p = bind_ok (header_port_after d.0 d.1) declared (n, rest) k in
+        let p = option_and_then-Some declared (header_port_after d.0 d.1) (n, rest) k in
         direction_ok ss d.0 d.1 e ∙ header_port_sound d.0 d.1 p.0.0 p.0.1 p.1 ∙ ends next_port_symbols (DeclaredNext p.0.0) n p.0.1 rest p.2
     by None e k =
-        let i = bind_ok (ident_at ss) alike (n, rest) k in
+        let i = option_and_then-Some alike (ident_at ss) (n, rest) k in
         ident_ok ss i.0.0 i.0.1 i.1 ∙ ends next_port_symbols (Alike i.0.0) n i.0.1 rest i.2
 
 next_port_complete : (n : NextPort) (rest : List Symbol) → next_port_at (next_port_symbols n ++ rest) ≡ Some (n, rest)

@@ -5,34 +5,18 @@ use Rattle.std.proofs.lemmas.Bool.Decides.{nat_tests}
 use Rattle.std.proofs.lemmas.List.{append-nil}
 use Rattle.std.proofs.lemmas.Option.{some_pair_parts}
 use Rattle.std.specs.Option.{option_and_then}
+use Rattle.hold_base.proofs.Bools.{cond-cases, cond-same_first}
+use Rattle.hold_base.proofs.Options.{option_and_then-Some, option_and_then-same}
 use Rattle.hold_vsyntax.specs.declared.mark.Mark.{Mark}
 use Rattle.hold_vsyntax.specs.declared.mark.Mark.TheVariants.{Module, EndModule, Input, Output, Wire, Assign, Comma, Semicolon, Colon, Dot, Equals, LeftParenthesis, RightParenthesis, LeftBracket, RightBracket}
-use Rattle.hold_vsyntax.specs.Symbols.{Symbol, Marked, Named, Counted, Tied, Strange, mark_number}
+use Rattle.hold_vsyntax.specs.Symbols.{Symbol, Marked, Named, Counted, Tied, Strange}
+use Rattle.hold_vsyntax.specs.inner.Symbols.{mark_number}
 use Rattle.hold_netlist.specs.declared.wire.Direction.{Direction}
 use Rattle.hold_netlist.specs.declared.wire.Direction.TheVariants.{Input as InputPort, Output as OutputPort}
 use Rattle.hold_vsyntax.specs.declared.tree.Ident.{Ident}
 use Rattle.hold_vsyntax.specs.Grammar.{separated, several, name_symbols, direction_mark, wire_symbols}
 use Rattle.hold_vsyntax.specs.declared.tree.Several.{Several}
-use Rattle.hold_vsyntax.specs.Reading.{with_front, begins, behind, after, Reads, more_up_to, more_of, several_at, ident_at, number_at, constant_at, direction_at}
-
--- what comes after something was read
-pub bind_ok : {A B : Type 0} (o : Option A) (f : A → Option B) (y : B) → option_and_then f o ≡ Some y → (x : A) × (o ≡ Some x) × (f x ≡ Some y)
-bind_ok None f y h = cc
-bind_ok (Some x) f y h = (x, refl, h)
-
--- two ways to go on that agree on what was read
-bind_same : {A B : Type 0} (o : Option A) (f g : A → Option B) → ((x : A) → o ≡ Some x → f x ≡ g x) → option_and_then f o ≡ option_and_then g o
-bind_same None f g h = refl
-bind_same (Some x) f g h = h x refl
-
-cond_same : {A : Type 0} (b : Bool) (x y z : A) → (b ≡ true → x ≡ y) → cond b x z ≡ cond b y z
-cond_same true x y z h = h refl
-cond_same false x y z h = refl
-
--- which way a test went
-pub cond_ok : {A : Type 0} (b : Bool) (x y z : A) → cond b x y ≡ z → ((b ≡ true) × (x ≡ z)) ⊎ ((b ≡ false) × (y ≡ z))
-cond_ok true x y z h = inl (refl, h)
-cond_ok false x y z h = inr (refl, h)
+use Rattle.hold_vsyntax.specs.inner.Reading.{with_front, begins, behind, after, Reads, more_up_to, more_of, several_at, ident_at, number_at, constant_at, direction_at}
 
 -- marks are told apart by their numbers
 mark_of : ℕ → Mark
@@ -110,7 +94,7 @@ enough read small zero (suc m) (s ∷ ss) h k = absurd (omega arith)
 enough read small (suc n) zero [] h k = refl
 enough read small (suc n) zero (s ∷ ss) h k = absurd (omega arith)
 enough read small (suc n) (suc m) ss h k =
-    cond_same (begins Comma ss) _ _ (Some ([], ss)) (λ is. bind_same (read (drop 1 ss)) _ _ (λ x e.
+    cond-same_first (begins Comma ss) _ _ (Some ([], ss)) (λ is. option_and_then-same _ _ (read (drop 1 ss)) (λ x e.
     ap (λ o. option_and_then (λ xs. Some (x.0 ∷ xs.0, xs.1)) o)
     (enough read small n m x.1
     (omega (arith, begins_length Comma ss is, small.shorter (drop 1 ss) x.0 x.1 e))
@@ -185,7 +169,7 @@ up_to_sound : {X : Type 0} (write : X → List Symbol) (read : Reads X) → Spel
 up_to_sound write read spells zero ss xs rest h =
     let p = some_pair_parts [] xs ss rest h in
     p.1 ∙ ap (λ l. separated write l ++ rest) p.0
-up_to_sound {X = X} write read spells (suc n) ss xs rest h = by (λ u m v e. up_to_sound write read spells n u m v e) (cond_ok (begins Comma ss) (option_and_then then_more (read (drop 1 ss))) (Some ([], ss)) (Some (xs, rest)) h)
+up_to_sound {X = X} write read spells (suc n) ss xs rest h = by (λ u m v e. up_to_sound write read spells n u m v e) (cond-cases (begins Comma ss) (option_and_then then_more (read (drop 1 ss))) (Some ([], ss)) (Some (xs, rest)) h)
   where
     joined : (x : X) (u : List Symbol) (m : List X) (v : List Symbol) → begins Comma ss ≡ true → drop 1 ss ≡ write x ++ u → u ≡ separated write m ++ v
         → ss ≡ separated write (x ∷ m) ++ v
@@ -202,8 +186,8 @@ up_to_sound {X = X} write read spells (suc n) ss xs rest h = by (λ u m v e. up_
         → ((begins Comma ss ≡ true) × (option_and_then then_more (read (drop 1 ss)) ≡ Some (xs, rest)))
         ⊎ ((begins Comma ss ≡ false) × (◌≡◌ {A = Option (List X × List Symbol)} (Some ([], ss)) (Some (xs, rest)))) → ss ≡ separated write xs ++ rest
     by again (inl e) =
-        let first = bind_ok (read (drop 1 ss)) then_more (xs, rest) e.1 in
-        let more = bind_ok (more_up_to read n first.0.1) (onto first.0) (xs, rest) first.2 in
+        let first = option_and_then-Some then_more (read (drop 1 ss)) (xs, rest) e.1 in
+        let more = option_and_then-Some (onto first.0) (more_up_to read n first.0.1) (xs, rest) first.2 in
         let p = some_pair_parts (first.0.0 ∷ more.0.0) xs more.0.1 rest more.2 in
         joined first.0.0 first.0.1 more.0.0 more.0.1 e.0
         (spells.sound (drop 1 ss) first.0.0 first.0.1 first.1)
@@ -225,7 +209,7 @@ ends write x y u v h =
     ap (λ z. write z ++ u) p.0 ∙ ap (λ w. write y ++ w) p.1
 
 pub after_ok : (m : Mark) (ss rest : List Symbol) → after m ss ≡ Some rest → ss ≡ Marked m ∷ rest
-after_ok m ss rest h = by (cond_ok (begins m ss) (Some (drop 1 ss)) None (Some rest) h)
+after_ok m ss rest h = by (cond-cases (begins m ss) (Some (drop 1 ss)) None (Some rest) h)
   where
     by : ((begins m ss ≡ true) × (Some (drop 1 ss) ≡ Some rest)) ⊎ ((begins m ss ≡ false) × (None ≡ Some rest)) → ss ≡ Marked m ∷ rest
     by (inl e) = let is = begins_is m ss e.0 in let same : drop 1 ss ≡ rest = let some = e.1 in cc in is ∙ ap (λ l. Marked m ∷ l) same
@@ -256,7 +240,7 @@ constant_ok (Counted n ∷ ss) b rest h = cc
 constant_ok (Strange ∷ ss) b rest h = cc
 
 pub direction_ok : (ss : List Symbol) (d : Direction) (rest : List Symbol) → direction_at ss ≡ Some (d, rest) → ss ≡ Marked (direction_mark d) ∷ rest
-direction_ok ss d rest h = by (cond_ok (begins Input ss) (Some (InputPort, drop 1 ss)) (cond (begins Output ss) (Some (OutputPort, drop 1 ss)) None) (Some (d, rest)) h)
+direction_ok ss d rest h = by (cond-cases (begins Input ss) (Some (InputPort, drop 1 ss)) (cond (begins Output ss) (Some (OutputPort, drop 1 ss)) None) (Some (d, rest)) h)
   where
     write : Direction → List Symbol
     write e = Marked (direction_mark e) ∷ []
@@ -272,7 +256,7 @@ direction_ok ss d rest h = by (cond_ok (begins Input ss) (Some (InputPort, drop 
     by : ((begins Input ss ≡ true) × (◌≡◌ {A = Option (Direction × List Symbol)} (Some (InputPort, drop 1 ss)) (Some (d, rest))))
         ⊎ ((begins Input ss ≡ false) × (◌≡◌ {A = Option (Direction × List Symbol)} (cond (begins Output ss) (Some (OutputPort, drop 1 ss)) None) (Some (d, rest)))) → ss ≡ Marked (direction_mark d) ∷ rest
     by (inl e) = begins_is Input ss e.0 ∙ ends write InputPort d (drop 1 ss) rest e.1
-    by (inr e) = or (cond_ok (begins Output ss) (Some (OutputPort, drop 1 ss)) None (Some (d, rest)) e.1)
+    by (inr e) = or (cond-cases (begins Output ss) (Some (OutputPort, drop 1 ss)) None (Some (d, rest)) e.1)
 
 -- the word `wire`, written or not
 pub wire_ok : (ss : List Symbol) → ss ≡ wire_symbols (begins Wire ss) ++ behind Wire ss
@@ -288,8 +272,8 @@ ident_laws = record { sound = ident_ok; complete = λ i rest h. refl }
 pub several_sound : {X : Type 0} (write : X → List Symbol) (read : Reads X) → Spells write read → (ss : List Symbol) (s : Several X) (rest : List Symbol)
     → several_at read ss ≡ Some (s, rest) → ss ≡ several write s ++ rest
 several_sound write read spells ss s rest h =
-    let first = bind_ok (read ss) _ (s, rest) h in
-    let more = bind_ok (more_of read first.0.1) _ (s, rest) first.2 in
+    let first = option_and_then-Some _ (read ss) (s, rest) h in
+    let more = option_and_then-Some _ (more_of read first.0.1) (s, rest) first.2 in
     spells.sound ss first.0.0 first.0.1 first.1
     ∙ ap (λ l. write first.0.0 ++ l) (more_sound write read spells first.0.1 more.0.0 more.0.1 more.1)
     ∙ sym (append_assoc (write first.0.0) (separated write more.0.0) more.0.1)

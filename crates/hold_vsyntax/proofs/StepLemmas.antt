@@ -9,11 +9,11 @@ use Rattle.hold_vsyntax.specs.declared.mark.Mark.TheVariants.{EndModule}
 use Rattle.hold_vsyntax.specs.declared.tree.Item.{Item}
 use Rattle.hold_vsyntax.specs.Symbols.{Symbol, Marked, symbol, symbols}
 use Rattle.hold_vsyntax.specs.Pieces.{is_piece, pieces}
-use Rattle.hold_vsyntax.specs.Passing.{first_piece, rest_behind}
+use Rattle.hold_vsyntax.specs.inner.Passing.{first_piece, rest_behind}
 use Rattle.hold_vsyntax.specs.Grammar.{item_symbols, item_piece, end_piece}
-use Rattle.hold_vsyntax.specs.Reading.{begins, item_at}
-use Rattle.hold_vsyntax.specs.Tokens.{IsPopped, in_sight}
-use Rattle.hold_vsyntax.specs.Body.{blamed, IsStatement, Follows, Stops, HasRead}
+use Rattle.hold_vsyntax.specs.inner.Reading.{begins, item_at}
+use Rattle.hold_vsyntax.specs.inner.Tokens.{IsPopped, in_sight}
+use Rattle.hold_vsyntax.specs.inner.Body.{blamed, IsStatement, Follows, Stops, HasRead}
 use Rattle.hold_vsyntax.proofs.ReadingLemmas.{begins_is}
 use Rattle.hold_vsyntax.proofs.PieceLaws.{cut_piece, whole_piece, length-rest_behind, item_first}
 use Rattle.hold_vsyntax.proofs.ItemLaws.{item_sound, item_complete}
@@ -67,13 +67,6 @@ end_cut (x ∷ xs) new (Some t) is popped =
     let first : symbol x ≡ Marked EndModule = cc in
     let rest : xs ≡ new = let same = popped in cc in
     (x ∷ [], rw (ap is_piece first) (ap (λ l. (x ∷ []) ∷ pieces l) rest), ap (λ s. s ∷ []) first)
-
-pub end_ok : (ts new : List Lexeme) (t : Option Token) → begins EndModule (symbols ts) ≡ true → IsPopped ts t new → in_sight new ≡ None
-    → map symbols (pieces ts) ≡ end_piece ∷ []
-end_ok ts [] t is popped none =
-    let p = end_cut ts [] t is popped in
-    ap (map symbols) p.1 ∙ ap (λ l. l ∷ []) p.2
-end_ok ts (x ∷ xs) t is popped none = cc
 
 pub end_bad : (ts new : List Lexeme) (t : Option Token) (end : ℕ) (fault : SyntaxFault) → begins EndModule (symbols ts) ≡ true → IsPopped ts t new → in_sight new ≢ None
     → fault ≡ blamed new → Stops (pieces ts) end fault

@@ -11,10 +11,10 @@ use Rattle.hold_vsyntax.specs.declared.symbol.Symbol.{Symbol as Found}
 use Rattle.hold_vsyntax.specs.declared.tree.Item.{Item}
 use Rattle.hold_vsyntax.specs.Symbols.{Symbol, symbols}
 use Rattle.hold_vsyntax.specs.Pieces.{pieces}
-use Rattle.hold_vsyntax.specs.Passing.{rest_behind}
-use Rattle.hold_vsyntax.specs.Reading.{begins, item_at}
-use Rattle.hold_vsyntax.specs.Tokens.{IsPopped, in_sight, first_symbol}
-use Rattle.hold_vsyntax.specs.Body.{Blames, blamed, IsStatement, IsStep}
+use Rattle.hold_vsyntax.specs.inner.Passing.{rest_behind}
+use Rattle.hold_vsyntax.specs.inner.Reading.{begins, item_at}
+use Rattle.hold_vsyntax.specs.inner.Tokens.{IsPopped, in_sight, first_symbol}
+use Rattle.hold_vsyntax.specs.inner.Body.{Blames, blamed, IsStatement, IsStep}
 use Rattle.hold_vsyntax.proofs.StepLemmas.{step_ok, step_bad, end_bad}
 
 -- what is in sight isn't nothing

@@ -4,12 +4,13 @@ use Rattle.std.specs.Prelude.{IsTrue, ◌==◌}
 use Rattle.std.specs.Char.{is_ascii_digit}
 use Rattle.std.specs.List.{list_all}
 use Rattle.std.proofs.lemmas.Bool.{cases_lt, cond_both}
-use Rattle.std.proofs.lemmas.Bool.Decides.{nat_tests}
 use Rattle.std.proofs.lemmas.List.{reverse-append, length-reverse}
-use Rattle.hold_vsyntax.specs.Number.{number_from, number_of}
-use Rattle.hold_vsyntax.specs.NumberOrder.{digit, horner}
+use Rattle.hold_base.specs.Digits.{number_of}
+use Rattle.hold_base.specs.inner.Digits.{number_from}
+use Rattle.hold_base.proofs.Digits.{digits-cons, is_ascii_digit-within}
+use Rattle.hold_vsyntax.specs.inner.NumberOrder.{digit, horner}
+use Rattle.hold_vsyntax.proofs.NumberLemmas.{number_from-zero}
 use Rattle.hold_vsyntax.proofs.OrderLemmas.{padded, padded-more}
-use Rattle.hold_vsyntax.proofs.PlainLemmas.{digits-cons}
 
 -- The last places of `due` are taken from those of `has`: that leaves the digits, the last of them first, and the place
 -- above owes so much. Said with any numbers in front: behind their sum with the debt, the first number's places write
@@ -22,9 +23,6 @@ pub record IsTaken (behind owed : ℕ) (digits has due : List ℕ) : Type 0 wher
 pub IsTaken-none : (has due : List ℕ) → IsTaken 0 0 [] has due
 unfolding padded
 IsTaken-none has due = record { count = refl; decimal = refl; same = λ above under. omega arith }
-
-digit-is : (d : ℕ) → 48 ≤ d → d ≤ 57 → is_ascii_digit d ≡ true
-digit-is d low high = grind (arith, nat_tests)
 
 -- a decimal digit of a number is at most 9
 pub digit_in-small : (k : ℕ) (ds : List ℕ) → IsTrue (list_all is_ascii_digit ds) → digit k (map (λ d. d - 48) ds) ≤ 9
@@ -41,7 +39,7 @@ pub IsTaken-more : (k next owed has_digit due_digit lent byte : ℕ) (digits has
 unfolding padded
 IsTaken-more k next owed h d lent byte digits has due taken is_next is_h is_d enough tight is_byte =
     let turned : reverse (digits ++ byte ∷ []) ≡ byte ∷ reverse digits = reverse-append digits (byte ∷ []) in
-    let first : is_ascii_digit byte ≡ true = digit-is byte (omega arith) (omega arith) in
+    let first : is_ascii_digit byte ≡ true = is_ascii_digit-within byte (omega arith) (omega arith) in
     let place : next ≡ suc k = omega arith in
     record {
       count = omega (arith, length-append digits (byte ∷ []), taken.count);
@@ -83,11 +81,12 @@ pub IsTaken-all : (k owed : ℕ) (digits has due : List ℕ) → IsTaken k owed 
 IsTaken-all k owed digits has due taken lh ld less =
     let there : horner 0 (padded k has) ≡ horner 0 has = padded-more k has lh in
     let taken_off : horner 0 (padded k due) ≡ horner 0 due = padded-more k due ld in
-    let same : horner (0 + 0 + owed) (padded k has) ≡ number_of (reverse digits) + horner 0 (padded k due) = taken.same 0 0 in
+    let written : number_from 0 (reverse digits) ≡ number_of (reverse digits) = number_from-zero (reverse digits) in
+    let same : horner (0 + 0 + owed) (padded k has) ≡ number_from 0 (reverse digits) + horner 0 (padded k due) = taken.same 0 0 in
     elim (cases_lt 0 owed) [
       | inl some ↦
           let count : length (reverse digits) ≡ length (padded k []) = omega (arith, length-reverse digits, taken.count, length-padded k []) in
-          let below : number_of (reverse digits) < horner owed (padded k []) = below_front 0 owed (reverse digits) (padded k []) taken.decimal count some in
+          let below : number_from 0 (reverse digits) < horner owed (padded k []) = below_front 0 owed (reverse digits) (padded k []) taken.decimal count some in
           let front : horner (0 + owed) (padded k has) ≡ horner 0 (padded k has) + horner owed (padded k []) = horner-front k 0 owed has in
           let both : 0 + 0 + owed ≡ 0 + owed = omega arith in
           let whole : horner (0 + 0 + owed) (padded k has) ≡ horner (0 + owed) (padded k has) = ap (λ (n : ℕ). horner n (padded k has)) both in

@@ -4,7 +4,7 @@ use Rattle.std.specs.Prelude.{Option, Some, None}
 use Rattle.hold_vlex.specs.Lexed.{Lexeme}
 use Rattle.hold_vlex.specs.declared.token.Token.{Token}
 use Rattle.hold_vsyntax.specs.Symbols.{Symbol, symbol, symbols}
-use Rattle.hold_vsyntax.specs.Tokens.{IsPopped, in_sight}
+use Rattle.hold_vsyntax.specs.inner.Tokens.{IsPopped, in_sight}
 
 -- the symbol in sight is the first
 pub symbols_popped : (old : List Lexeme) (t : Option Token) (new : List Lexeme) (s : Symbol)

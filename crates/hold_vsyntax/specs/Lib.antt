@@ -1,16 +1,8 @@
 pub mod Number
-pub mod NumberOrder
 pub mod Symbols
-pub mod Shown
 pub mod Pieces
 pub mod Grammar
 pub mod Text
 pub mod SyntaxTree
-pub mod Answers
 pub mod Named
-pub mod Tokens
-pub mod Reading
-pub mod Gives
-pub mod Passing
-pub mod Body
-pub mod Whole
+pub mod inner

@@ -3,7 +3,7 @@
 -- IsNamedModule m: each identifier that is written in the module is a name: at least one byte, each from 33 to 126.
 use Rattle.std.specs.Prelude.{List}
 use Rattle.std.specs.List.{AllByRecursion}
-use Rattle.hold_netlist.specs.Names.{IsName}
+use Rattle.hold_base.specs.NameBytes.{IsName}
 use Rattle.hold_vsyntax.specs.declared.tree.Module.{Module}
 use Rattle.hold_vsyntax.specs.Symbols.{Symbol, Marked, Named, Counted, Tied, Strange}
 use Rattle.hold_vsyntax.specs.Grammar.{pieces_of}

@@ -2,9 +2,6 @@
 --   (Named), a number (Counted), a constant of one bit (Tied), or what stands in no piece of the grammar (Strange).
 -- ident name at: an identifier of that name and place. word_symbol text at, symbol_of sort text at: the symbol of a
 --   word, and that of a token by its sort.
--- mark_number m: the number of a mark, by which marks are told apart.
--- mark_words: the words of the grammar. mark_of_row row: the mark of the word in that place among them, from 0; None
---   past the last.
 -- word_mark text: the mark of a word of the grammar; None for any other word.
 -- sign_mark text: the mark of a sign of the grammar; None for any other sign. mark_of_sign byte: that of a sign's byte.
 -- marked mark: the symbol of a mark; Strange where there is none.
@@ -16,9 +13,7 @@
 -- is_in_profile mark: whether a keyword of this mark isn't left out: one that has a mark, but for `module`.
 -- is_left_out_sign text: whether it is `{` or `#`.
 use Rattle.std.specs.Prelude.{ℕ, List, [], ◌∷◌, map, Bool, true, false, not, ◌&&◌, ◌||◌, ◌==◌, bytes_eq, if◌then◌else◌, Option, Some, None, codes}
-use Rattle.hold_vsyntax.specs.Number.{number_of}
-use Rattle.std.specs.Option.{option_and_then}
-use Rattle.hold_words.specs.Rows.{first_row}
+use Rattle.hold_base.specs.Digits.{number_of}
 use Rattle.hold_netlist.specs.Keywords.{keywords}
 use Rattle.hold_netlist.specs.Names.{is_among}
 use Rattle.hold_vlex.specs.Lexed.{Lexeme}
@@ -35,42 +30,18 @@ pub data Symbol : Type 0 where
   Tied : Bool → Symbol
   Strange : Symbol
 
-abbrev pub mark_number : Mark → ℕ
-mark_number Module = 0
-mark_number EndModule = 1
-mark_number Input = 2
-mark_number Output = 3
-mark_number Wire = 4
-mark_number Assign = 5
-mark_number Comma = 6
-mark_number Semicolon = 7
-mark_number Colon = 8
-mark_number Dot = 9
-mark_number Equals = 10
-mark_number LeftParenthesis = 11
-mark_number RightParenthesis = 12
-mark_number LeftBracket = 13
-mark_number RightBracket = 14
-
 abbrev pub ident : List ℕ → ℕ → Ident
 ident name at = record { name = name; at = at }
 
-unfoldable pub mark_words : List (List ℕ)
-mark_words =
-    codes "module" ∷ codes "endmodule" ∷ codes "input" ∷ codes "output" ∷ codes "wire" ∷ codes "assign" ∷ []
-
-abbrev pub mark_of_row : ℕ → Option Mark
-mark_of_row row =
-    if row == 0 then Some Module
-    else (if row == 1 then Some EndModule
-    else (if row == 2 then Some Input
-    else (if row == 3 then Some Output
-    else (if row == 4 then Some Wire
-    else (if row == 5 then Some Assign
+unfoldable pub word_mark : List ℕ → Option Mark
+word_mark text =
+    if bytes_eq text (codes "module") then Some Module
+    else (if bytes_eq text (codes "endmodule") then Some EndModule
+    else (if bytes_eq text (codes "input") then Some Input
+    else (if bytes_eq text (codes "output") then Some Output
+    else (if bytes_eq text (codes "wire") then Some Wire
+    else (if bytes_eq text (codes "assign") then Some Assign
     else None)))))
-
-abbrev pub word_mark : List ℕ → Option Mark
-word_mark text = option_and_then mark_of_row (first_row text mark_words)
 
 abbrev pub mark_of_sign : ℕ → Option Mark
 mark_of_sign b =

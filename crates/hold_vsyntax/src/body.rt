@@ -1,10 +1,10 @@
 ghost use Rattle.std.specs.Prelude.{◌≡◌, ℕ, IfOk, true};
-ghost use Rattle.hold_vsyntax.specs.Reading.{begins};
+ghost use Rattle.hold_base.specs.Answers.{IfFault};
+ghost use Rattle.hold_vsyntax.specs.inner.Reading.{begins};
 ghost use Rattle.hold_vsyntax.specs.Symbols.{symbols};
 ghost use Rattle.hold_vsyntax.specs.declared.mark.Mark.TheVariants.{EndModule};
-ghost use Rattle.hold_vsyntax.specs.Body.{IsStep, IsBody, IsBodyFault, HasRead};
+ghost use Rattle.hold_vsyntax.specs.inner.Body.{IsStep, IsBody, IsBodyFault};
 ghost use Rattle.hold_vsyntax.specs.Pieces.{pieces};
-ghost use Rattle.hold_vsyntax.specs.Answers.{Faults};
 
 use crate::fault::SyntaxFault;
 use crate::item::item;
@@ -57,7 +57,7 @@ pub fn body(
     end: u64,
 ) -> Result<List<Item>, Stop<SyntaxFault>>
     ensures read { IfOk result (IsBody (pieces reader.old)) }
-    ensures refused { Faults result (IsBodyFault (pieces reader.old) end) }
+    ensures refused { IfFault result (IsBodyFault (pieces reader.old) end) }
 {
     let mut list = Vec::new(alloc);
     while let Some(item) = step(alloc, reader, end)? {

@@ -1,5 +1,5 @@
-ghost use Rattle.hold_vsyntax.specs.Gives.{Gives};
-ghost use Rattle.hold_vsyntax.specs.Reading.{bit_after, tied_net_at, tied_at, connection_at};
+ghost use Rattle.hold_vsyntax.specs.inner.Gives.{Gives};
+ghost use Rattle.hold_vsyntax.specs.inner.Reading.{bit_after, tied_net_at, tied_at, connection_at};
 ghost use Rattle.hold_vsyntax.specs.Symbols.{symbols};
 
 use crate::fault::BadPiece;
@@ -11,7 +11,7 @@ use hold_base::Stop;
 use std::alloc::Global;
 
 /// Reads the index of a bit whose name and opening bracket are read.
-#[tactic(auto, unfolding(crate::specs::Reading::bit_after))]
+#[tactic(auto, unfolding(crate::specs::inner::Reading::bit_after))]
 fn bit(alloc: Global, reader: &mut Reader<'_>, name: Ident) -> Result<Tied, Stop<BadPiece>>
     ensures { Gives result (bit_after name (symbols reader.old)) (symbols reader.new) }
 {
@@ -21,7 +21,7 @@ fn bit(alloc: Global, reader: &mut Reader<'_>, name: Ident) -> Result<Tied, Stop
 }
 
 /// Reads a net or a bit of one.
-#[tactic(auto, unfolding(crate::specs::Reading::tied_net_at))]
+#[tactic(auto, unfolding(crate::specs::inner::Reading::tied_net_at))]
 fn tied_net(alloc: Global, reader: &mut Reader<'_>) -> Result<Tied, Stop<BadPiece>>
     ensures { Gives result (tied_net_at (symbols reader.old)) (symbols reader.new) }
 {
@@ -34,7 +34,7 @@ fn tied_net(alloc: Global, reader: &mut Reader<'_>) -> Result<Tied, Stop<BadPiec
 }
 
 /// Reads what a pin is tied to, between its parentheses.
-#[tactic(auto, unfolding(crate::specs::Reading::tied_at))]
+#[tactic(auto, unfolding(crate::specs::inner::Reading::tied_at))]
 fn tied(alloc: Global, reader: &mut Reader<'_>) -> Result<Tied, Stop<BadPiece>>
     ensures { Gives result (tied_at (symbols reader.old)) (symbols reader.new) }
 {
@@ -48,7 +48,7 @@ fn tied(alloc: Global, reader: &mut Reader<'_>) -> Result<Tied, Stop<BadPiece>>
 }
 
 /// Reads one connection.
-#[tactic(auto, unfolding(crate::specs::Reading::connection_at))]
+#[tactic(auto, unfolding(crate::specs::inner::Reading::connection_at))]
 pub fn connection(alloc: Global, reader: &mut Reader<'_>) -> Result<Connection, Stop<BadPiece>>
     ensures { Gives result (connection_at (symbols reader.old)) (symbols reader.new) }
 {

@@ -1,5 +1,5 @@
-ghost use Rattle.hold_vsyntax.specs.Gives.{Gives};
-ghost use Rattle.hold_vsyntax.specs.Reading.{declared_after, plain_at, port_list_after, header_at, opening_at};
+ghost use Rattle.hold_vsyntax.specs.inner.Gives.{Gives};
+ghost use Rattle.hold_vsyntax.specs.inner.Reading.{declared_after, plain_at, port_list_after, header_at, opening_at};
 ghost use Rattle.hold_vsyntax.specs.Symbols.{symbols};
 
 use crate::fault::BadPiece;
@@ -14,7 +14,7 @@ use hold_netlist::Direction;
 use std::alloc::Global;
 
 /// Reads a list of ports that are declared in the header, of which the first direction is read.
-#[tactic(auto, unfolding(crate::specs::Reading::declared_after))]
+#[tactic(auto, unfolding(crate::specs::inner::Reading::declared_after))]
 fn declared(
     alloc: Global,
     reader: &mut Reader<'_>,
@@ -29,7 +29,7 @@ fn declared(
 }
 
 /// Reads a list of ports' names that isn't empty.
-#[tactic(auto, unfolding(crate::specs::Reading::plain_at))]
+#[tactic(auto, unfolding(crate::specs::inner::Reading::plain_at))]
 fn plain(alloc: Global, reader: &mut Reader<'_>) -> Result<Header, Stop<BadPiece>>
     ensures { Gives result (plain_at (symbols reader.old)) (symbols reader.new) }
 {
@@ -39,7 +39,7 @@ fn plain(alloc: Global, reader: &mut Reader<'_>) -> Result<Header, Stop<BadPiece
 }
 
 /// Reads a list of ports whose opening parenthesis is read.
-#[tactic(auto, unfolding(crate::specs::Reading::port_list_after))]
+#[tactic(auto, unfolding(crate::specs::inner::Reading::port_list_after))]
 fn port_list(alloc: Global, reader: &mut Reader<'_>) -> Result<Header, Stop<BadPiece>>
     ensures { Gives result (port_list_after (symbols reader.old)) (symbols reader.new) }
 {
@@ -53,7 +53,7 @@ fn port_list(alloc: Global, reader: &mut Reader<'_>) -> Result<Header, Stop<BadP
 }
 
 /// Reads the ports in the header.
-#[tactic(auto, unfolding(crate::specs::Reading::header_at))]
+#[tactic(auto, unfolding(crate::specs::inner::Reading::header_at))]
 fn header(alloc: Global, reader: &mut Reader<'_>) -> Result<Header, Stop<BadPiece>>
     ensures { Gives result (header_at (symbols reader.old)) (symbols reader.new) }
 {
@@ -65,7 +65,7 @@ fn header(alloc: Global, reader: &mut Reader<'_>) -> Result<Header, Stop<BadPiec
 }
 
 /// Reads the piece that opens the module: its name and its ports.
-#[tactic(auto, unfolding(crate::specs::Reading::opening_at))]
+#[tactic(auto, unfolding(crate::specs::inner::Reading::opening_at))]
 pub fn opening(alloc: Global, reader: &mut Reader<'_>) -> Result<(Ident, Header), Stop<BadPiece>>
     ensures { Gives result (opening_at (symbols reader.old)) (symbols reader.new) }
 {

@@ -1,5 +1,5 @@
-ghost use Rattle.hold_vsyntax.specs.Gives.{Gives};
-ghost use Rattle.hold_vsyntax.specs.Reading.{ident_at, idents_at, more_of, several_at, with_front};
+ghost use Rattle.hold_vsyntax.specs.inner.Gives.{Gives};
+ghost use Rattle.hold_vsyntax.specs.inner.Reading.{ident_at, idents_at, more_of, several_at, with_front};
 ghost use Rattle.hold_vsyntax.specs.Symbols.{symbols};
 
 use crate::fault::BadPiece;
@@ -26,7 +26,7 @@ fn more_idents(
 }
 
 /// Reads one identifier or more into a list, with commas between them.
-#[tactic(auto, unfolding(crate::specs::Reading::idents_at))]
+#[tactic(auto, unfolding(crate::specs::inner::Reading::idents_at))]
 pub fn idents(alloc: Global, reader: &mut Reader<'_>) -> Result<List<Ident>, Stop<BadPiece>>
     ensures { Gives result (idents_at (symbols reader.old)) (symbols reader.new) }
 {

@@ -1,5 +1,5 @@
-ghost use Rattle.hold_vsyntax.specs.Gives.{Gives};
-ghost use Rattle.hold_vsyntax.specs.Reading.{connection_at, connections_at, instance_at, more_of, several_at, with_front};
+ghost use Rattle.hold_vsyntax.specs.inner.Gives.{Gives};
+ghost use Rattle.hold_vsyntax.specs.inner.Reading.{connection_at, connections_at, instance_at, more_of, several_at, with_front};
 ghost use Rattle.hold_vsyntax.specs.Symbols.{symbols};
 
 use crate::connection::connection;
@@ -27,7 +27,7 @@ fn more_connections(
 }
 
 /// Reads the connections of an instance, which may be none.
-#[tactic(auto, unfolding(crate::specs::Reading::connections_at))]
+#[tactic(auto, unfolding(crate::specs::inner::Reading::connections_at))]
 fn connections(alloc: Global, reader: &mut Reader<'_>) -> Result<List<Connection>, Stop<BadPiece>>
     ensures { Gives result (connections_at (symbols reader.old)) (symbols reader.new) }
 {
@@ -41,7 +41,7 @@ fn connections(alloc: Global, reader: &mut Reader<'_>) -> Result<List<Connection
 }
 
 /// Reads one instance.
-#[tactic(auto, unfolding(crate::specs::Reading::instance_at))]
+#[tactic(auto, unfolding(crate::specs::inner::Reading::instance_at))]
 fn instance(alloc: Global, reader: &mut Reader<'_>) -> Result<Instance, Stop<BadPiece>>
     ensures { Gives result (instance_at (symbols reader.old)) (symbols reader.new) }
 {

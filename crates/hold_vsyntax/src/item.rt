@@ -1,5 +1,5 @@
-ghost use Rattle.hold_vsyntax.specs.Gives.{Gives};
-ghost use Rattle.hold_vsyntax.specs.Reading.{body_ports_after, body_wires_after, assignments_after, instances_at, statement_at, item_at};
+ghost use Rattle.hold_vsyntax.specs.inner.Gives.{Gives};
+ghost use Rattle.hold_vsyntax.specs.inner.Reading.{body_ports_after, body_wires_after, assignments_after, instances_at, statement_at, item_at};
 ghost use Rattle.hold_vsyntax.specs.Symbols.{symbols};
 
 use crate::assignments::several_assignments;
@@ -16,7 +16,7 @@ use hold_netlist::Direction;
 use std::alloc::Global;
 
 /// Reads ports that the body declares, of which the direction is read.
-#[tactic(auto, unfolding(crate::specs::Reading::body_ports_after))]
+#[tactic(auto, unfolding(crate::specs::inner::Reading::body_ports_after))]
 fn body_ports(
     alloc: Global,
     reader: &mut Reader<'_>,
@@ -36,7 +36,7 @@ fn body_ports(
 }
 
 /// Reads wires whose keyword is read.
-#[tactic(auto, unfolding(crate::specs::Reading::body_wires_after))]
+#[tactic(auto, unfolding(crate::specs::inner::Reading::body_wires_after))]
 fn body_wires(alloc: Global, reader: &mut Reader<'_>) -> Result<Item, Stop<BadPiece>>
     ensures { Gives result (body_wires_after (symbols reader.old)) (symbols reader.new) }
 {
@@ -46,7 +46,7 @@ fn body_wires(alloc: Global, reader: &mut Reader<'_>) -> Result<Item, Stop<BadPi
 }
 
 /// Reads assignments whose keyword is read.
-#[tactic(auto, unfolding(crate::specs::Reading::assignments_after))]
+#[tactic(auto, unfolding(crate::specs::inner::Reading::assignments_after))]
 fn assignments(alloc: Global, reader: &mut Reader<'_>) -> Result<Item, Stop<BadPiece>>
     ensures { Gives result (assignments_after (symbols reader.old)) (symbols reader.new) }
 {
@@ -55,7 +55,7 @@ fn assignments(alloc: Global, reader: &mut Reader<'_>) -> Result<Item, Stop<BadP
 }
 
 /// Reads instances.
-#[tactic(auto, unfolding(crate::specs::Reading::instances_at))]
+#[tactic(auto, unfolding(crate::specs::inner::Reading::instances_at))]
 fn instances(alloc: Global, reader: &mut Reader<'_>) -> Result<Item, Stop<BadPiece>>
     ensures { Gives result (instances_at (symbols reader.old)) (symbols reader.new) }
 {
@@ -65,7 +65,7 @@ fn instances(alloc: Global, reader: &mut Reader<'_>) -> Result<Item, Stop<BadPie
 }
 
 /// Reads a statement without its semicolon.
-#[tactic(auto, unfolding(crate::specs::Reading::statement_at))]
+#[tactic(auto, unfolding(crate::specs::inner::Reading::statement_at))]
 fn statement(alloc: Global, reader: &mut Reader<'_>) -> Result<Item, Stop<BadPiece>>
     ensures { Gives result (statement_at (symbols reader.old)) (symbols reader.new) }
 {
@@ -81,7 +81,7 @@ fn statement(alloc: Global, reader: &mut Reader<'_>) -> Result<Item, Stop<BadPie
 }
 
 /// Reads the piece of one statement.
-#[tactic(auto, unfolding(crate::specs::Reading::item_at))]
+#[tactic(auto, unfolding(crate::specs::inner::Reading::item_at))]
 pub fn item(alloc: Global, reader: &mut Reader<'_>) -> Result<Item, Stop<BadPiece>>
     ensures { Gives result (item_at (symbols reader.old)) (symbols reader.new) }
 {

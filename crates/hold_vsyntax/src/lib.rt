@@ -20,9 +20,8 @@ mod reader;
 mod steps;
 mod symbol;
 mod syntax;
-#[cfg(test)]
-mod tests;
 pub mod tree;
 
 pub use fault::SyntaxFault;
+pub use mark::Mark;
 pub use syntax::syntax_tree;

@@ -1,5 +1,6 @@
 ghost use Rattle.std.specs.Prelude.{◌≡◌, ◌==◌};
-ghost use Rattle.hold_vsyntax.specs.Symbols.{word_mark, sign_mark, mark_number};
+ghost use Rattle.hold_vsyntax.specs.Symbols.{word_mark, sign_mark};
+ghost use Rattle.hold_vsyntax.specs.inner.Symbols.{mark_number};
 
 use hold_words::{WordTable, match_words};
 
@@ -36,7 +37,7 @@ const WORDS: WordTable<6> = WordTable {
 
 impl Mark {
     /// The mark of a word of the grammar.
-    #[tactic(auto, unfolding(crate::specs::Symbols::mark_words))]
+    #[tactic(auto, unfolding(crate::specs::inner::Symbols::mark_words), using(crate::proofs::MarkLemmas::row_mark_is_word_mark))]
     pub fn of_word(word: &[u8]) -> Option<Mark>
         ensures { result ≡ word_mark word.now }
     {

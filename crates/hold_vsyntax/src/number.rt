@@ -1,7 +1,8 @@
 //! Numbers of any length, and what is asked of them.
 
 ghost use Rattle.std.specs.Prelude.{◌≡◌, ◌≤◌, IfOk, IfSome, IfNone};
-ghost use Rattle.hold_vsyntax.specs.Number.{number_of, IsPlain};
+ghost use Rattle.hold_base.specs.Digits.{number_of};
+ghost use Rattle.hold_vsyntax.specs.Number.{IsPlain};
 
 mod digits;
 mod order;
@@ -31,7 +32,7 @@ enum Kept {
 impl Model for Number {
     ghost use Rattle.std.specs.Prelude.{ℕ};
     ghost use Rattle.std.specs.Coded.{coded_ℕ};
-    ghost use Rattle.hold_vsyntax.specs.Number.{value_of, IsKept};
+    ghost use Rattle.hold_vsyntax.specs.inner.Number.{value_of, IsKept};
 
     ghost Value = { ℕ };
 

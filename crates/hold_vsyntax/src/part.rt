@@ -1,5 +1,5 @@
-ghost use Rattle.hold_vsyntax.specs.Gives.{Gives};
-ghost use Rattle.hold_vsyntax.specs.Reading.{index_after, selected_at, part_at, right_at, assignment_at};
+ghost use Rattle.hold_vsyntax.specs.inner.Gives.{Gives};
+ghost use Rattle.hold_vsyntax.specs.inner.Reading.{index_after, selected_at, part_at, right_at, assignment_at};
 ghost use Rattle.hold_vsyntax.specs.Symbols.{symbols};
 
 use crate::fault::BadPiece;
@@ -12,7 +12,7 @@ use hold_base::Stop;
 use std::alloc::Global;
 
 /// Reads an index or a range whose opening bracket is read.
-#[tactic(auto, unfolding(crate::specs::Reading::index_after))]
+#[tactic(auto, unfolding(crate::specs::inner::Reading::index_after))]
 fn index(alloc: Global, reader: &mut Reader<'_>) -> Result<Selected, Stop<BadPiece>>
     ensures { Gives result (index_after (symbols reader.old)) (symbols reader.new) }
 {
@@ -26,7 +26,7 @@ fn index(alloc: Global, reader: &mut Reader<'_>) -> Result<Selected, Stop<BadPie
 }
 
 /// Reads what is selected of a net whose name is read.
-#[tactic(auto, unfolding(crate::specs::Reading::selected_at))]
+#[tactic(auto, unfolding(crate::specs::inner::Reading::selected_at))]
 fn selected(alloc: Global, reader: &mut Reader<'_>) -> Result<Selected, Stop<BadPiece>>
     ensures { Gives result (selected_at (symbols reader.old)) (symbols reader.new) }
 {
@@ -38,7 +38,7 @@ fn selected(alloc: Global, reader: &mut Reader<'_>) -> Result<Selected, Stop<Bad
 }
 
 /// Reads a net, or a part of it.
-#[tactic(auto, unfolding(crate::specs::Reading::part_at))]
+#[tactic(auto, unfolding(crate::specs::inner::Reading::part_at))]
 fn part(alloc: Global, reader: &mut Reader<'_>) -> Result<Part, Stop<BadPiece>>
     ensures { Gives result (part_at (symbols reader.old)) (symbols reader.new) }
 {
@@ -48,7 +48,7 @@ fn part(alloc: Global, reader: &mut Reader<'_>) -> Result<Part, Stop<BadPiece>>
 }
 
 /// Reads the right side of an assignment.
-#[tactic(auto, unfolding(crate::specs::Reading::right_at))]
+#[tactic(auto, unfolding(crate::specs::inner::Reading::right_at))]
 fn right(alloc: Global, reader: &mut Reader<'_>) -> Result<Right, Stop<BadPiece>>
     ensures { Gives result (right_at (symbols reader.old)) (symbols reader.new) }
 {
@@ -60,7 +60,7 @@ fn right(alloc: Global, reader: &mut Reader<'_>) -> Result<Right, Stop<BadPiece>
 }
 
 /// Reads one assignment.
-#[tactic(auto, unfolding(crate::specs::Reading::assignment_at))]
+#[tactic(auto, unfolding(crate::specs::inner::Reading::assignment_at))]
 pub fn assignment(alloc: Global, reader: &mut Reader<'_>) -> Result<Assignment, Stop<BadPiece>>
     ensures { Gives result (assignment_at (symbols reader.old)) (symbols reader.new) }
 {

@@ -1,8 +1,8 @@
 ghost use Rattle.std.specs.Prelude.{◌≡◌};
-ghost use Rattle.hold_vsyntax.specs.Passing.{first_within, rest_within, first_piece, rest_behind, found_lexeme};
+ghost use Rattle.hold_vsyntax.specs.inner.Passing.{first_within, rest_within, first_piece, rest_behind, found_lexeme};
 ghost use Rattle.hold_vsyntax.specs.Text.{first_left_out, without_opening, blame_at};
-ghost use Rattle.hold_vsyntax.specs.Body.{Blames, blamed, blamed_at_front};
-ghost use Rattle.hold_vsyntax.specs.Tokens.{in_sight, is_whole_in_sight, ends_in_sight, is_module_in_sight};
+ghost use Rattle.hold_vsyntax.specs.inner.Body.{Blames, blamed, blamed_at_front};
+ghost use Rattle.hold_vsyntax.specs.inner.Tokens.{in_sight, is_whole_in_sight, ends_in_sight, is_module_in_sight};
 
 use crate::fault::SyntaxFault;
 use crate::left_out::is_left_out;

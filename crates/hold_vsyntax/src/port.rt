@@ -1,5 +1,5 @@
-ghost use Rattle.hold_vsyntax.specs.Gives.{Gives};
-ghost use Rattle.hold_vsyntax.specs.Reading.{header_port_after, next_port_at, more_of};
+ghost use Rattle.hold_vsyntax.specs.inner.Gives.{Gives};
+ghost use Rattle.hold_vsyntax.specs.inner.Reading.{header_port_after, next_port_at, more_of};
 ghost use Rattle.hold_vsyntax.specs.Symbols.{symbols};
 
 use crate::fault::BadPiece;
@@ -13,7 +13,7 @@ use hold_netlist::Direction;
 use std::alloc::Global;
 
 /// Reads a port of the header whose direction is read.
-#[tactic(auto, unfolding(crate::specs::Reading::header_port_after))]
+#[tactic(auto, unfolding(crate::specs::inner::Reading::header_port_after))]
 pub fn header_port(
     alloc: Global,
     reader: &mut Reader<'_>,
@@ -33,7 +33,7 @@ pub fn header_port(
 }
 
 /// Reads a later port of a header that declares its ports.
-#[tactic(auto, unfolding(crate::specs::Reading::next_port_at))]
+#[tactic(auto, unfolding(crate::specs::inner::Reading::next_port_at))]
 pub fn next_port(alloc: Global, reader: &mut Reader<'_>) -> Result<NextPort, Stop<BadPiece>>
     ensures { Gives result (next_port_at (symbols reader.old)) (symbols reader.new) }
 {

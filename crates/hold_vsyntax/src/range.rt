@@ -1,5 +1,5 @@
-ghost use Rattle.hold_vsyntax.specs.Gives.{Gives};
-ghost use Rattle.hold_vsyntax.specs.Reading.{right_bound_at, bounds_after, range_at};
+ghost use Rattle.hold_vsyntax.specs.inner.Gives.{Gives};
+ghost use Rattle.hold_vsyntax.specs.inner.Reading.{right_bound_at, bounds_after, range_at};
 ghost use Rattle.hold_vsyntax.specs.Symbols.{symbols};
 
 use crate::fault::BadPiece;
@@ -25,7 +25,7 @@ pub fn right_bound(
 }
 
 /// Reads a range whose opening bracket is read.
-#[tactic(auto, unfolding(crate::specs::Reading::bounds_after))]
+#[tactic(auto, unfolding(crate::specs::inner::Reading::bounds_after))]
 pub fn bounds(alloc: Global, reader: &mut Reader<'_>) -> Result<Range, Stop<BadPiece>>
     ensures { Gives result (bounds_after (symbols reader.old)) (symbols reader.new) }
 {
@@ -35,7 +35,7 @@ pub fn bounds(alloc: Global, reader: &mut Reader<'_>) -> Result<Range, Stop<BadP
 }
 
 /// Reads a range, where one is in sight.
-#[tactic(auto, unfolding(crate::specs::Reading::range_at))]
+#[tactic(auto, unfolding(crate::specs::inner::Reading::range_at))]
 pub fn range(alloc: Global, reader: &mut Reader<'_>) -> Result<Option<Range>, Stop<BadPiece>>
     ensures { Gives result (range_at (symbols reader.old)) (symbols reader.new) }
 {

@@ -1,7 +1,7 @@
 ghost use Rattle.std.specs.Prelude.{◌≡◌, None};
 ghost use Rattle.hold_vlex.specs.Lexed.{lexed};
 ghost use Rattle.hold_vsyntax.specs.Text.{place_of};
-ghost use Rattle.hold_vsyntax.specs.Tokens.{IsPopped, IsFront, first_symbol, in_sight};
+ghost use Rattle.hold_vsyntax.specs.inner.Tokens.{IsPopped, IsFront, first_symbol, in_sight};
 
 use crate::symbol::Symbol;
 use hold_vlex::{Lexer, Token};
@@ -25,7 +25,7 @@ pub struct Front<'a> {
 impl<'a> Model for Reader<'a> {
     ghost use Rattle.std.specs.Prelude.{◌≡◌, List, None};
     ghost use Rattle.hold_vlex.specs.Lexed.{Lexeme};
-    ghost use Rattle.hold_vsyntax.specs.Tokens.{tokens_from, IsSeen};
+    ghost use Rattle.hold_vsyntax.specs.inner.Tokens.{tokens_from, IsSeen};
 
     ghost Value = { List Lexeme };
 

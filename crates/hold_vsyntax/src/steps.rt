@@ -1,6 +1,6 @@
-ghost use Rattle.std.specs.Prelude.{◌≡◌, ◌≤◌, length};
-ghost use Rattle.hold_vsyntax.specs.Gives.{Gives, GivesRest, GivesOption};
-ghost use Rattle.hold_vsyntax.specs.Reading.{begins, behind, after, ident_at, number_at, constant_at, direction_at};
+ghost use Rattle.std.specs.Prelude.{◌≡◌};
+ghost use Rattle.hold_vsyntax.specs.inner.Gives.{Gives, GivesRest, GivesOption};
+ghost use Rattle.hold_vsyntax.specs.inner.Reading.{begins, behind, after, ident_at, number_at, constant_at, direction_at};
 ghost use Rattle.hold_vsyntax.specs.Symbols.{symbols};
 
 use crate::fault::BadPiece;

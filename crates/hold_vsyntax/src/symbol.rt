@@ -1,7 +1,7 @@
 ghost use Rattle.std.specs.Prelude.{◌≡◌};
 ghost use Rattle.hold_vlex.specs.Lexed.{lexeme};
 ghost use Rattle.hold_vsyntax.specs.Symbols.{symbol, word_symbol, marked};
-ghost use Rattle.hold_vsyntax.specs.Shown.{shown};
+ghost use Rattle.hold_vsyntax.specs.inner.Shown.{shown};
 
 use crate::mark::Mark;
 use crate::number::Digits;

@@ -1,7 +1,7 @@
 ghost use Rattle.std.specs.Prelude.{ℕ, ◌≡◌, ◌+◌, ◌-◌, ◌≤◌, ◌==◌, length, map, max, nat_le};
 ghost use Rattle.std.specs.Ordering.{nat_cmp};
-ghost use Rattle.hold_vsyntax.specs.NumberOrder.{digits_of, digit, is_equal, is_not_greater};
-ghost use Rattle.hold_vsyntax.specs.Number.{value_of};
+ghost use Rattle.hold_vsyntax.specs.inner.NumberOrder.{digits_of, digit, is_equal, is_not_greater};
+ghost use Rattle.hold_vsyntax.specs.inner.Number.{value_of};
 
 use crate::number::{Kept, Number};
 use std::cmp::Ordering;

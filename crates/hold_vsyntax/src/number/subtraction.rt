@@ -1,7 +1,8 @@
 ghost use Rattle.std.specs.Prelude.{◌≡◌, ◌+◌, ◌-◌, ◌*◌, ◌≤◌, reverse, IfOk, IsTrue};
 ghost use Rattle.std.specs.Char.{is_ascii_digit};
 ghost use Rattle.std.specs.List.{list_all};
-ghost use Rattle.hold_vsyntax.specs.Number.{number_of, value_of};
+ghost use Rattle.hold_base.specs.Digits.{number_of};
+ghost use Rattle.hold_vsyntax.specs.inner.Number.{value_of};
 
 use crate::number::order::{digit_at, digit_in, places};
 use crate::number::{Digits, Kept, Number, is_at_most};

@@ -2,7 +2,7 @@ use Rattle.std.proofs.Common.{◌≡◌, ◌++◌, [], drop}
 use Rattle.std.specs.Prelude.{flat_map}
 use Rattle.hold_vparse.specs.BitFaults.{misfit_assignment}
 use Rattle.hold_vparse.specs.Declares.{assigned}
-use Rattle.hold_vparse.specs.Flat.{targets}
+use Rattle.hold_vparse.specs.inner.Flat.{targets}
 use Rattle.hold_vparse.proofs.assign_list.assign_list.Given as goal
 
 abbrev pub invariant-loop-assignment : goal.invariant-loop-assignment

@@ -1,8 +1,8 @@
 use Rattle.std.proofs.Common.{◌≡◌, drop}
 use Rattle.std.specs.Prelude.{flat_map}
 use Rattle.hold_vparse.specs.BitFaults.{misfit_assignment}
-use Rattle.hold_vparse.specs.Flat.{targets}
-use Rattle.hold_vparse.specs.Found.{merged, found_ident}
+use Rattle.hold_vparse.specs.inner.Flat.{targets}
+use Rattle.hold_vparse.specs.inner.Found.{merged, found_ident}
 use Rattle.hold_vparse.specs.Soonest.{soonest}
 use Rattle.hold_vparse.proofs.bit_faults.misfit_in_assignments.Given as goal
 

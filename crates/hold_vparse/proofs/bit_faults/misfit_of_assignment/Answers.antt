@@ -1,6 +1,6 @@
 use Rattle.std.proofs.Common.{ap, sym, ◌∙◌}
 use Rattle.hold_vparse.specs.BitFaults.{misfit_left, misfit_right}
-use Rattle.hold_vparse.specs.Found.{merged, found_ident}
+use Rattle.hold_vparse.specs.inner.Found.{merged, found_ident}
 use Rattle.hold_vparse.specs.Soonest.{soonest}
 use Rattle.hold_vparse.proofs.SoonestLemmas.{soonest-append}
 use Rattle.hold_vparse.proofs.bit_faults.misfit_of_assignment.Goals as goal

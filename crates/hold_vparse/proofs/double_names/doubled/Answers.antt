@@ -3,7 +3,7 @@ use Rattle.std.specs.Prelude.{flat_map, Option}
 use Rattle.hold_vsyntax.specs.declared.tree.Ident.{Ident}
 use Rattle.hold_vsyntax.specs.declared.tree.Instance.{Instance}
 use Rattle.hold_vparse.specs.DoubleNames.{mentions, doubles, repeated_in}
-use Rattle.hold_vparse.specs.Found.{merged, found_ident}
+use Rattle.hold_vparse.specs.inner.Found.{merged, found_ident}
 use Rattle.hold_vparse.specs.Lines.{instances}
 use Rattle.hold_vparse.specs.Soonest.{soonest}
 use Rattle.hold_vparse.proofs.SoonestLemmas.{soonest-append}

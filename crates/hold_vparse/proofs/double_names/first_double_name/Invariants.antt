@@ -1,8 +1,8 @@
 use Rattle.std.proofs.Common.{◌≡◌, take, drop, []}
-use Rattle.hold_vparse.specs.Barred.{Bars}
+use Rattle.hold_vparse.specs.inner.Barred.{Bars}
 use Rattle.hold_vparse.specs.DoubleNames.{doubles}
-use Rattle.hold_vparse.specs.Flat.{seen_mentions}
-use Rattle.hold_vparse.specs.Found.{merged, found_ident}
+use Rattle.hold_vparse.specs.inner.Flat.{seen_mentions}
+use Rattle.hold_vparse.specs.inner.Found.{merged, found_ident}
 use Rattle.hold_vparse.specs.Soonest.{soonest}
 use Rattle.hold_vparse.proofs.double_names.first_double_name.Given as goal
 

@@ -1,5 +1,5 @@
 use Rattle.std.proofs.Common.{◌≡◌, ◌++◌, drop}
-use Rattle.hold_vparse.specs.Flat.{targets}
+use Rattle.hold_vparse.specs.inner.Flat.{targets}
 use Rattle.hold_vparse.proofs.idents.add_names.Given as goal
 
 abbrev pub invariant-loop-name : goal.invariant-loop-name

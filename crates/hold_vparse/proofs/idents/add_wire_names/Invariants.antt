@@ -1,5 +1,5 @@
 use Rattle.std.proofs.Common.{◌≡◌, ◌++◌, drop, map}
-use Rattle.hold_vparse.specs.Flat.{targets, seen_wires}
+use Rattle.hold_vparse.specs.inner.Flat.{targets, seen_wires}
 use Rattle.hold_vparse.specs.Lines.{WireLine}
 use Rattle.hold_vparse.proofs.idents.add_wire_names.Given as goal
 

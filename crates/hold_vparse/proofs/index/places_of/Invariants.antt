@@ -1,6 +1,6 @@
 use Rattle.std.proofs.Common.{◌≡◌, take}
-use Rattle.hold_vparse.specs.Flat.{targets}
-use Rattle.hold_vparse.specs.Index.{IsIndex}
+use Rattle.hold_vparse.specs.inner.Flat.{targets}
+use Rattle.hold_vparse.specs.inner.Index.{IsIndex}
 use Rattle.hold_vparse.specs.Nets.{names}
 use Rattle.hold_vparse.proofs.index.places_of.Given as goal
 

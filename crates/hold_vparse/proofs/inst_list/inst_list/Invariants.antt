@@ -2,7 +2,7 @@ use Rattle.std.proofs.Common.{◌≡◌, ◌++◌, [], drop, map}
 use Rattle.std.specs.Prelude.{flat_map}
 use Rattle.hold_vparse.specs.BitFaults.{misfit_named}
 use Rattle.hold_vparse.specs.Declares.{inst}
-use Rattle.hold_vparse.specs.Flat.{seen_instances}
+use Rattle.hold_vparse.specs.inner.Flat.{seen_instances}
 use Rattle.hold_vparse.proofs.inst_list.inst_list.Given as goal
 
 abbrev pub invariant-loop-named : goal.invariant-loop-named

@@ -1,5 +1,5 @@
 use Rattle.std.proofs.Common.{◌≡◌, ◌++◌, drop}
-use Rattle.hold_vparse.specs.Flat.{targets}
+use Rattle.hold_vparse.specs.inner.Flat.{targets}
 use Rattle.hold_vparse.specs.Lines.{assignments_of_item}
 use Rattle.hold_vparse.proofs.lines.add_assignments.Given as goal
 

@@ -1,5 +1,5 @@
 use Rattle.std.proofs.Common.{◌≡◌, ◌++◌, drop}
-use Rattle.hold_vparse.specs.Flat.{seen_ports}
+use Rattle.hold_vparse.specs.inner.Flat.{seen_ports}
 use Rattle.hold_vparse.specs.Lines.{body_lines}
 use Rattle.hold_vparse.proofs.lines.add_body_lines.Given as goal
 

@@ -1,5 +1,5 @@
 use Rattle.std.proofs.Common.{◌≡◌, ◌++◌, drop, map}
-use Rattle.hold_vparse.specs.Flat.{seen_instances}
+use Rattle.hold_vparse.specs.inner.Flat.{seen_instances}
 use Rattle.hold_vparse.specs.Lines.{instances_of_item}
 use Rattle.hold_vparse.proofs.lines.add_instances.Given as goal
 

@@ -1,5 +1,5 @@
 use Rattle.std.proofs.Common.{◌≡◌, ◌++◌, drop, map}
-use Rattle.hold_vparse.specs.Flat.{seen_ports, seen_range}
+use Rattle.hold_vparse.specs.inner.Flat.{seen_ports, seen_range}
 use Rattle.hold_vparse.specs.Lines.{port_line, lines_of_item}
 use Rattle.hold_vparse.proofs.lines.add_ports.Given as goal
 

@@ -1,5 +1,5 @@
 use Rattle.std.proofs.Common.{◌≡◌, ◌++◌, drop, map}
-use Rattle.hold_vparse.specs.Flat.{seen_wires, seen_range}
+use Rattle.hold_vparse.specs.inner.Flat.{seen_wires, seen_range}
 use Rattle.hold_vparse.specs.Lines.{wire_line, wires_of_item}
 use Rattle.hold_vparse.proofs.lines.add_wires.Given as goal
 

@@ -1,5 +1,5 @@
 use Rattle.std.proofs.Common.{◌≡◌, ◌++◌, drop}
-use Rattle.hold_vparse.specs.Flat.{targets}
+use Rattle.hold_vparse.specs.inner.Flat.{targets}
 use Rattle.hold_vparse.specs.Lines.{assignments}
 use Rattle.hold_vparse.proofs.lines.assignments_in.Given as goal
 

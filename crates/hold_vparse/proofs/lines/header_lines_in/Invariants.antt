@@ -1,5 +1,5 @@
 use Rattle.std.proofs.Common.{◌≡◌, ◌++◌, drop}
-use Rattle.hold_vparse.specs.Flat.{seen_ports, seen_range}
+use Rattle.hold_vparse.specs.inner.Flat.{seen_ports, seen_range}
 use Rattle.hold_vparse.specs.Lines.{header_lines, next_lines}
 use Rattle.hold_vparse.proofs.lines.header_lines_in.Given as goal
 

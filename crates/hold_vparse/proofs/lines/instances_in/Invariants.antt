@@ -1,5 +1,5 @@
 use Rattle.std.proofs.Common.{◌≡◌, ◌++◌, drop}
-use Rattle.hold_vparse.specs.Flat.{seen_instances}
+use Rattle.hold_vparse.specs.inner.Flat.{seen_instances}
 use Rattle.hold_vparse.specs.Lines.{instances}
 use Rattle.hold_vparse.proofs.lines.instances_in.Given as goal
 

@@ -1,5 +1,5 @@
 use Rattle.std.proofs.Common.{◌≡◌, ◌++◌, drop}
-use Rattle.hold_vparse.specs.Flat.{seen_wires}
+use Rattle.hold_vparse.specs.inner.Flat.{seen_wires}
 use Rattle.hold_vparse.specs.Lines.{wire_lines}
 use Rattle.hold_vparse.proofs.lines.wire_lines_in.Given as goal
 

@@ -1,5 +1,5 @@
 use Rattle.std.proofs.Common.{◌≡◌, ◌++◌, drop, map}
-use Rattle.hold_vparse.specs.Flat.{seen_ports, seen_mentions}
+use Rattle.hold_vparse.specs.inner.Flat.{seen_ports, seen_mentions}
 use Rattle.hold_vparse.specs.Lines.{PortLine}
 use Rattle.hold_vparse.specs.DoubleNames.{mention, DeclaresPort}
 use Rattle.hold_vparse.proofs.mentions.add_declared_ports.Given as goal

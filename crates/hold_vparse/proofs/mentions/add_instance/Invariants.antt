@@ -1,7 +1,7 @@
 use Rattle.std.proofs.Common.{◌≡◌, ◌++◌, drop, map}
 use Rattle.std.specs.Prelude.{flat_map}
 use Rattle.hold_vsyntax.specs.declared.tree.Connection.{Connection}
-use Rattle.hold_vparse.specs.Flat.{seen_mentions}
+use Rattle.hold_vparse.specs.inner.Flat.{seen_mentions}
 use Rattle.hold_vparse.specs.Nets.{used_in_tied}
 use Rattle.hold_vparse.specs.DoubleNames.{mention, UsesNet, mentions_of_instance}
 use Rattle.hold_vparse.proofs.mentions.add_instance.Given as goal

@@ -1,6 +1,6 @@
 use Rattle.std.proofs.Common.{◌≡◌, ◌++◌, ◌∷◌, drop}
 use Rattle.std.specs.Prelude.{flat_map}
-use Rattle.hold_vparse.specs.Flat.{seen_mentions}
+use Rattle.hold_vparse.specs.inner.Flat.{seen_mentions}
 use Rattle.hold_vparse.specs.DoubleNames.{mentions_of_instance}
 use Rattle.hold_vparse.proofs.mentions.add_instances.Given as goal
 

@@ -1,6 +1,6 @@
 use Rattle.std.proofs.Common.{◌≡◌, ◌++◌, ◌∷◌, drop, map}
 use Rattle.hold_vsyntax.specs.declared.tree.Assignment.{Assignment}
-use Rattle.hold_vparse.specs.Flat.{seen_mentions}
+use Rattle.hold_vparse.specs.inner.Flat.{seen_mentions}
 use Rattle.hold_vparse.specs.DoubleNames.{mention, UsesNet}
 use Rattle.hold_vparse.proofs.mentions.add_left_sides.Given as goal
 

@@ -1,8 +1,8 @@
 use Rattle.std.proofs.Common.{◌∙◌, ap, is_none}
 use Rattle.std.specs.List.{filter}
 use Rattle.hold_vsyntax.specs.declared.tree.Ident.{Ident}
-use Rattle.hold_vparse.specs.Flat.{seen_ports, seen_wires}
-use Rattle.hold_vparse.specs.Found.{found_ident}
+use Rattle.hold_vparse.specs.inner.Flat.{seen_ports, seen_wires}
+use Rattle.hold_vparse.specs.inner.Found.{found_ident}
 use Rattle.hold_vparse.specs.Lines.{line_of}
 use Rattle.hold_vparse.specs.Soonest.{soonest}
 use Rattle.hold_vparse.proofs.FaultLemmas.{soonest-misdeclared}

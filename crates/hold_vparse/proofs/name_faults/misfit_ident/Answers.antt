@@ -1,5 +1,5 @@
-use Rattle.hold_vparse.specs.Flat.{targets, seen_instances}
-use Rattle.hold_vparse.specs.Found.{found_ident}
+use Rattle.hold_vparse.specs.inner.Flat.{targets, seen_instances}
+use Rattle.hold_vparse.specs.inner.Found.{found_ident}
 use Rattle.hold_vparse.proofs.FaultLemmas.{soonest-misfit}
 use Rattle.hold_vparse.proofs.name_faults.misfit_ident.Goals as goal
 

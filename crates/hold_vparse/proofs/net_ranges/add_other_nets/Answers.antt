@@ -1,7 +1,7 @@
 use Rattle.std.proofs.Common.{◌∷◌, [], ◌+◌, refl, sym, ap, ◌∙◌, drop}
-use Rattle.hold_vparse.specs.Flat.{seen_range, seen_wires}
+use Rattle.hold_vparse.specs.inner.Flat.{seen_range, seen_wires}
 use Rattle.hold_vparse.specs.Nets.{names}
-use Rattle.hold_vparse.specs.Ranges.{other_ranges, with_nets}
+use Rattle.hold_vparse.specs.inner.Ranges.{other_ranges, with_nets}
 use Rattle.hold_vparse.proofs.NetRangeLemmas.{nets_step, nets_end, with_nets-none, wire_range, other_ranges-in, other_ranges-out}
 use Rattle.hold_vparse.proofs.net_ranges.add_other_nets.Goals.{then-not-has+in_ok-add_wire, else-not-has}
 use Rattle.hold_vparse.proofs.net_ranges.add_other_nets.Goals as goal

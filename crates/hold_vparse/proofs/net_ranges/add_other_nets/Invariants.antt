@@ -1,7 +1,7 @@
 use Rattle.std.proofs.Common.{◌≡◌, drop}
-use Rattle.hold_vparse.specs.Flat.{seen_wires}
+use Rattle.hold_vparse.specs.inner.Flat.{seen_wires}
 use Rattle.hold_vparse.specs.Nets.{names}
-use Rattle.hold_vparse.specs.Ranges.{with_nets, other_ranges}
+use Rattle.hold_vparse.specs.inner.Ranges.{with_nets, other_ranges}
 use Rattle.hold_vparse.proofs.net_ranges.add_other_nets.Given as goal
 
 abbrev pub invariant-loop-number : goal.invariant-loop-number

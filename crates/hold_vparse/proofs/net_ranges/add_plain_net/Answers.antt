@@ -1,6 +1,6 @@
 use Rattle.std.proofs.Common.{◌≡◌, ◌∷◌, [], subst, sym, ◌∙◌}
 use Rattle.std.specs.Prelude.{OnOk}
-use Rattle.hold_vparse.specs.Ranges.{with_nets}
+use Rattle.hold_vparse.specs.inner.Ranges.{with_nets}
 use Rattle.hold_vparse.proofs.NetRangeLemmas.{plain_range-some, plain_range-none}
 use Rattle.hold_vparse.proofs.net_ranges.add_plain_net.Goals as goal
 

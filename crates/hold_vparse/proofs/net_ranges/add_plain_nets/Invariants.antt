@@ -1,7 +1,7 @@
 use Rattle.std.proofs.Common.{◌≡◌, drop, map}
 use Rattle.hold_vsyntax.specs.declared.tree.Ident.{Ident}
 use Rattle.hold_vparse.specs.Lines.{as_declared, line_of}
-use Rattle.hold_vparse.specs.Ranges.{port_ranges, with_nets}
+use Rattle.hold_vparse.specs.inner.Ranges.{port_ranges, with_nets}
 use Rattle.hold_vparse.proofs.net_ranges.add_plain_nets.Given as goal
 
 abbrev pub invariant-loop-name : goal.invariant-loop-name

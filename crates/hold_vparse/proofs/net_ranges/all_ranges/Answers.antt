@@ -1,7 +1,7 @@
 use Rattle.std.proofs.Common.{◌++◌, refl}
-use Rattle.hold_vparse.specs.Flat.{seen_wires}
+use Rattle.hold_vparse.specs.inner.Flat.{seen_wires}
 use Rattle.hold_vparse.specs.Lines.{header_lines, body_lines, wire_lines}
-use Rattle.hold_vparse.specs.Ranges.{port_ranges, wire_ranges}
+use Rattle.hold_vparse.specs.inner.Ranges.{port_ranges, wire_ranges}
 use Rattle.hold_vparse.proofs.NetRangeLemmas.{few_nets, whole_ranges}
 use Rattle.hold_vparse.proofs.net_ranges.all_ranges.Goals as goal
 

@@ -1,7 +1,7 @@
 use Rattle.std.proofs.Common.{◌++◌, subst}
-use Rattle.hold_vparse.specs.Bounds.{Hold}
+use Rattle.hold_vparse.specs.inner.Bounds.{Hold}
 use Rattle.hold_vparse.specs.Lines.{header_lines, body_lines, wire_lines}
-use Rattle.hold_vparse.specs.Ranges.{port_ranges, wire_ranges}
+use Rattle.hold_vparse.specs.inner.Ranges.{port_ranges, wire_ranges}
 use Rattle.hold_vparse.proofs.NetRangeLemmas.{lines_whole}
 use Rattle.hold_vparse.proofs.net_ranges.line_ranges.Goals as goal
 

@@ -1,5 +1,5 @@
 use Rattle.std.proofs.Common.{◌∙◌}
-use Rattle.hold_vparse.specs.Flat.{targets, seen_instances}
+use Rattle.hold_vparse.specs.inner.Flat.{targets, seen_instances}
 use Rattle.hold_vparse.proofs.DesignLemmas.{assigns_fit, insts_fit}
 use Rattle.hold_vparse.proofs.netlist.netlist_of_bits.Goals as goal
 

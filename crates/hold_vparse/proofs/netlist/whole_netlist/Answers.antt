@@ -1,6 +1,6 @@
 use Rattle.std.proofs.Common.{sym, subst}
 use Rattle.hold_netlist.specs.WellFormed.{IsWellFormed}
-use Rattle.hold_vparse.specs.DesignWith.{design_with}
+use Rattle.hold_vparse.specs.inner.DesignWith.{design_with}
 use Rattle.hold_vparse.proofs.DesignLemmas.{names_once, well_formed}
 use Rattle.hold_vparse.proofs.netlist.whole_netlist.Goals as goal
 

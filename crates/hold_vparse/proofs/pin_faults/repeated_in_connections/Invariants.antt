@@ -1,7 +1,7 @@
 use Rattle.std.proofs.Common.{◌≡◌, [], drop}
-use Rattle.hold_netlist.specs.NameTable.{names_of}
+use Rattle.hold_netlist.specs.inner.NameTable.{names_of}
 use Rattle.hold_vparse.specs.DoubleNames.{repeated_pins}
-use Rattle.hold_vparse.specs.Found.{merged, found_ident}
+use Rattle.hold_vparse.specs.inner.Found.{merged, found_ident}
 use Rattle.hold_vparse.specs.Soonest.{soonest}
 use Rattle.hold_vparse.proofs.pin_faults.repeated_in_connections.Given as goal
 

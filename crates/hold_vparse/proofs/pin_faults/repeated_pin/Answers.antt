@@ -1,7 +1,7 @@
 use Rattle.std.proofs.Common.{◌≡◌, ℕ, List, [], ◌∷◌, ◌++◌, Bool, true, false, cond, ap, sym, ◌∙◌, not}
 use Rattle.std.proofs.lemmas.List.{map-append}
 use Rattle.hold_netlist.specs.Names.{is_among}
-use Rattle.hold_netlist.specs.NameTable.{names_of}
+use Rattle.hold_netlist.specs.inner.NameTable.{names_of}
 use Rattle.hold_vparse.specs.Soonest.{soonest}
 use Rattle.hold_vparse.proofs.PinLemmas.{is_new_pin}
 use Rattle.hold_vparse.proofs.pin_faults.repeated_pin.Goals as goal

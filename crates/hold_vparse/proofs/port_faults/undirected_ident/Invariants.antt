@@ -1,7 +1,7 @@
 use Rattle.std.proofs.Common.{◌≡◌, drop, is_none}
 use Rattle.std.specs.List.{filter}
 use Rattle.hold_vsyntax.specs.declared.tree.Ident.{Ident}
-use Rattle.hold_vparse.specs.Found.{merged, found_ident}
+use Rattle.hold_vparse.specs.inner.Found.{merged, found_ident}
 use Rattle.hold_vparse.specs.Lines.{line_of}
 use Rattle.hold_vparse.specs.Soonest.{soonest}
 use Rattle.hold_vparse.proofs.port_faults.undirected_ident.Given as goal

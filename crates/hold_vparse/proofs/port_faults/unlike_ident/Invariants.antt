@@ -1,7 +1,7 @@
 use Rattle.std.proofs.Common.{◌≡◌, drop}
 use Rattle.std.specs.Prelude.{flat_map}
-use Rattle.hold_vparse.specs.Flat.{seen_wires}
-use Rattle.hold_vparse.specs.Found.{merged, found_ident}
+use Rattle.hold_vparse.specs.inner.Flat.{seen_wires}
+use Rattle.hold_vparse.specs.inner.Found.{merged, found_ident}
 use Rattle.hold_vparse.specs.Lines.{WireLine, line_of}
 use Rattle.hold_vparse.specs.PortFaults.{unlike_line}
 use Rattle.hold_vparse.specs.Soonest.{soonest}

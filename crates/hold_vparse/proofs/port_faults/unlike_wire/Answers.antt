@@ -1,5 +1,5 @@
 use Rattle.std.proofs.Common.{Bool, Some, None, ap, sym, ◌∙◌, cond}
-use Rattle.hold_vparse.specs.Flat.{seen_port, seen_wire, seen_found}
+use Rattle.hold_vparse.specs.inner.Flat.{seen_port, seen_wire, seen_found}
 use Rattle.hold_vparse.specs.PortFaults.{later}
 use Rattle.hold_vparse.proofs.UnlikeLemmas.{unlike_none, unlike_missing, unlike_found}
 use Rattle.hold_vparse.proofs.port_faults.unlike_wire.Goals.{in_default-get-via-in-Some-get+else-not-have_same_bounds, in_default-get-via-in_default-get}

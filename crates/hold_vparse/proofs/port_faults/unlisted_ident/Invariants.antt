@@ -2,8 +2,8 @@ use Rattle.std.proofs.Common.{◌≡◌, drop, map, not}
 use Rattle.std.specs.List.{filter}
 use Rattle.hold_netlist.specs.Names.{is_among}
 use Rattle.hold_vsyntax.specs.declared.tree.Ident.{Ident}
-use Rattle.hold_vparse.specs.Flat.{seen_ports}
-use Rattle.hold_vparse.specs.Found.{merged, found_ident}
+use Rattle.hold_vparse.specs.inner.Flat.{seen_ports}
+use Rattle.hold_vparse.specs.inner.Found.{merged, found_ident}
 use Rattle.hold_vparse.specs.Lines.{PortLine}
 use Rattle.hold_vparse.specs.Nets.{names}
 use Rattle.hold_vparse.specs.Soonest.{soonest}

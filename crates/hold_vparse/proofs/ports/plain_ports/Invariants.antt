@@ -1,6 +1,6 @@
 use Rattle.std.proofs.Common.{◌≡◌, ◌++◌, drop, map}
 use Rattle.hold_vsyntax.specs.declared.tree.Ident.{Ident}
-use Rattle.hold_vparse.specs.Flat.{seen_ports}
+use Rattle.hold_vparse.specs.inner.Flat.{seen_ports}
 use Rattle.hold_vparse.specs.Lines.{as_declared, line_of}
 use Rattle.hold_vparse.proofs.ports.plain_ports.Given as goal
 

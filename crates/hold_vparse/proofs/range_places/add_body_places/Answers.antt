@@ -1,6 +1,6 @@
 use Rattle.std.proofs.Common.{◌++◌, refl}
 use Rattle.hold_vparse.specs.Lines.{body_lines, lines_of_item}
-use Rattle.hold_vparse.specs.Ranges.{port_ranges}
+use Rattle.hold_vparse.specs.inner.Ranges.{port_ranges}
 use Rattle.hold_vparse.proofs.PlaceLemmas.{Grows-both, places_step, places_end, port_ranges-cons}
 use Rattle.hold_vparse.proofs.range_places.add_body_places.Goals as goal
 

@@ -1,8 +1,8 @@
 use Rattle.std.proofs.Common.{◌≡◌, ◌++◌, ℕ, List, drop, map}
-use Rattle.hold_vparse.specs.Bounds.{Grows}
-use Rattle.hold_vparse.specs.Index.{at_place}
+use Rattle.hold_vparse.specs.inner.Bounds.{Grows}
+use Rattle.hold_vparse.specs.inner.Index.{at_place}
 use Rattle.hold_vparse.specs.Lines.{body_lines}
-use Rattle.hold_vparse.specs.Ranges.{port_ranges}
+use Rattle.hold_vparse.specs.inner.Ranges.{port_ranges}
 use Rattle.hold_vparse.proofs.range_places.add_body_places.Given as goal
 
 abbrev pub invariant-loop-item : goal.invariant-loop-item

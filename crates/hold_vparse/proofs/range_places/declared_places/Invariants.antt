@@ -1,7 +1,7 @@
 use Rattle.std.proofs.Common.{◌≡◌, ◌++◌, ◌∷◌, ℕ, List, drop, map}
-use Rattle.hold_vparse.specs.Index.{at_place}
+use Rattle.hold_vparse.specs.inner.Index.{at_place}
 use Rattle.hold_vparse.specs.Lines.{bounds_of, header_line, next_lines}
-use Rattle.hold_vparse.specs.Ranges.{port_ranges}
+use Rattle.hold_vparse.specs.inner.Ranges.{port_ranges}
 use Rattle.hold_vparse.proofs.range_places.declared_places.Given as goal
 
 abbrev pub invariant-loop-port : goal.invariant-loop-port

@@ -1,6 +1,6 @@
 use Rattle.std.proofs.Common.{◌++◌, [], refl}
 use Rattle.hold_vparse.specs.Lines.{wire_lines, wires_of_item}
-use Rattle.hold_vparse.specs.Ranges.{wire_ranges}
+use Rattle.hold_vparse.specs.inner.Ranges.{wire_ranges}
 use Rattle.hold_vparse.proofs.PlaceLemmas.{Grows-both, places_step, places_end, wire_ranges-cons}
 use Rattle.hold_vparse.proofs.range_places.wire_places.Goals as goal
 

@@ -1,6 +1,6 @@
 use Rattle.std.proofs.Common.{◌≡◌, ◌++◌, drop, false}
 use Rattle.std.specs.List.{list_any}
-use Rattle.hold_vparse.specs.Flat.{net_wires}
+use Rattle.hold_vparse.specs.inner.Flat.{net_wires}
 use Rattle.hold_vparse.specs.NameFaults.{has_large_bound}
 use Rattle.hold_vparse.proofs.wire_list.wire_list.Given as goal
 

@@ -1,7 +1,7 @@
 use Rattle.std.proofs.Common.{◌≡◌, ◌++◌, drop, map, not}
 use Rattle.std.specs.List.{filter}
 use Rattle.hold_netlist.specs.Names.{is_among}
-use Rattle.hold_vparse.specs.Flat.{seen_wires, net_wires}
+use Rattle.hold_vparse.specs.inner.Flat.{seen_wires, net_wires}
 use Rattle.hold_vparse.specs.Lines.{WireLine}
 use Rattle.hold_vparse.specs.Nets.{names, wire}
 use Rattle.hold_vparse.proofs.wires.add_other_wires.Given as goal

@@ -1,5 +1,5 @@
 use Rattle.std.proofs.Common.{◌≡◌, ◌++◌, drop, map}
-use Rattle.hold_vparse.specs.Flat.{seen_ports, net_wires}
+use Rattle.hold_vparse.specs.inner.Flat.{seen_ports, net_wires}
 use Rattle.hold_vparse.specs.Lines.{PortLine}
 use Rattle.hold_vparse.specs.Nets.{wire}
 use Rattle.hold_vparse.proofs.wires.add_port_wires.Given as goal

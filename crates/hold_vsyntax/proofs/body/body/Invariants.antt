@@ -1,5 +1,5 @@
 use Rattle.std.proofs.Common.{length}
-use Rattle.hold_vsyntax.specs.Body.{HasRead}
+use Rattle.hold_vsyntax.specs.inner.Body.{HasRead}
 use Rattle.hold_vsyntax.specs.Pieces.{pieces}
 use Rattle.hold_vsyntax.proofs.body.body.Given as goal
 

@@ -1,4 +1,4 @@
-use Rattle.hold_vsyntax.specs.Tokens.{in_sight}
+use Rattle.hold_vsyntax.specs.inner.Tokens.{in_sight}
 use Rattle.hold_vsyntax.proofs.StopLemmas.{is_seen, end_stops}
 use Rattle.hold_vsyntax.proofs.body.ended.Goals as goal
 

@@ -1,8 +1,8 @@
 use Rattle.std.proofs.Common.{sym, ◌∙◌}
-use Rattle.hold_vsyntax.specs.Reading.{item_at}
+use Rattle.hold_vsyntax.specs.inner.Reading.{item_at}
 use Rattle.hold_vsyntax.specs.Symbols.{symbols}
 use Rattle.hold_vsyntax.proofs.GivesLemmas.{fault_none}
-use Rattle.hold_vsyntax.specs.Tokens.{in_sight}
+use Rattle.hold_vsyntax.specs.inner.Tokens.{in_sight}
 use Rattle.hold_vsyntax.proofs.StopLemmas.{is_not_unseen, step_reads, step_stops}
 use Rattle.hold_vsyntax.proofs.body.step.Goals as goal
 

@@ -1,6 +1,6 @@
 use Rattle.std.proofs.Common.{sym, ◌∙◌, ap}
 use Rattle.std.specs.Prelude.{Some}
-use Rattle.hold_vsyntax.specs.Reading.{with_front, ident_at, more_of}
+use Rattle.hold_vsyntax.specs.inner.Reading.{with_front, ident_at, more_of}
 use Rattle.hold_vsyntax.specs.Symbols.{symbols}
 use Rattle.hold_vsyntax.proofs.ReadingLemmas.{ident_shrinks, more_preserved, more_ended, more_failed, more_smaller}
 use Rattle.hold_vsyntax.proofs.GivesLemmas.{gives_failed}

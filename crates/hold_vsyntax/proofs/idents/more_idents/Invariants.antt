@@ -1,5 +1,5 @@
 use Rattle.std.proofs.Common.{◌≡◌, length}
-use Rattle.hold_vsyntax.specs.Reading.{with_front, ident_at, more_of}
+use Rattle.hold_vsyntax.specs.inner.Reading.{with_front, ident_at, more_of}
 use Rattle.hold_vsyntax.specs.Symbols.{symbols}
 use Rattle.hold_vsyntax.proofs.idents.more_idents.Given as goal
 

@@ -1,5 +1,5 @@
 use Rattle.std.proofs.Common.{◌≡◌, length}
-use Rattle.hold_vsyntax.specs.Reading.{with_front, instance_at, more_of}
+use Rattle.hold_vsyntax.specs.inner.Reading.{with_front, instance_at, more_of}
 use Rattle.hold_vsyntax.specs.Symbols.{symbols}
 use Rattle.hold_vsyntax.proofs.instances.more_instances.Given as goal
 

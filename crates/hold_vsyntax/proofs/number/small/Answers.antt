@@ -1,7 +1,10 @@
 use Rattle.std.proofs.Common.{arith}
-use Rattle.hold_vsyntax.specs.Number.{number_of}
-use Rattle.hold_vsyntax.proofs.NumberLemmas.{at_least_front}
+use Rattle.hold_base.specs.Digits.{number_of}
+use Rattle.hold_vsyntax.proofs.NumberLemmas.{number_from-zero, at_least_front}
 use Rattle.hold_vsyntax.proofs.number.small.Goals as goal
+
+pub loop-digit-init : goal.loop-digit-init
+loop-digit-init c = record { rest = number_from-zero c.args.digits.now; in_range = omega arith }
 
 pub returns-then-number-from-clause-none : goal.returns-then-number-from-clause-none
 returns-then-number-from-clause-none c =

@@ -1,5 +1,6 @@
 use Rattle.std.proofs.Common.{◌≡◌, ◌≤◌, drop}
-use Rattle.hold_vsyntax.specs.Number.{number_from, number_of}
+use Rattle.hold_base.specs.Digits.{number_of}
+use Rattle.hold_base.specs.inner.Digits.{number_from}
 use Rattle.hold_vsyntax.proofs.number.small.Given as goal
 
 abbrev pub invariant-loop-digit : goal.invariant-loop-digit

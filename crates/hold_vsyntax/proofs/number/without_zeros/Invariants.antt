@@ -2,7 +2,7 @@ use Rattle.std.proofs.Common.{◌≡◌, length}
 use Rattle.std.specs.Prelude.{IsTrue}
 use Rattle.std.specs.Char.{is_ascii_digit}
 use Rattle.std.specs.List.{list_all}
-use Rattle.hold_vsyntax.specs.Number.{number_of}
+use Rattle.hold_base.specs.Digits.{number_of}
 use Rattle.hold_vsyntax.proofs.number.without_zeros.Given as goal
 
 abbrev pub invariant-loop-text : goal.invariant-loop-text

@@ -1,5 +1,5 @@
 use Rattle.std.proofs.Common.{◌≡◌, length}
-use Rattle.hold_vsyntax.specs.Passing.{first_within}
+use Rattle.hold_vsyntax.specs.inner.Passing.{first_within}
 use Rattle.hold_vsyntax.specs.Text.{first_left_out}
 use Rattle.hold_vsyntax.proofs.passing.left_out_within.Given as goal
 

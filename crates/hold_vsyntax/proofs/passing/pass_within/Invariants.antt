@@ -1,5 +1,5 @@
 use Rattle.std.proofs.Common.{◌≡◌, length}
-use Rattle.hold_vsyntax.specs.Passing.{rest_within}
+use Rattle.hold_vsyntax.specs.inner.Passing.{rest_within}
 use Rattle.hold_vsyntax.proofs.passing.pass_within.Given as goal
 
 abbrev pub invariant-loop-at_end : goal.invariant-loop-at_end

@@ -1,5 +1,5 @@
 use Rattle.std.proofs.Common.{ap}
-use Rattle.hold_vsyntax.specs.Tokens.{in_sight}
+use Rattle.hold_vsyntax.specs.inner.Tokens.{in_sight}
 use Rattle.hold_vsyntax.proofs.StopLemmas.{is_not_unseen, is_unseen}
 use Rattle.hold_vsyntax.proofs.ModuleLemmas.{opening_stops, nothing_stops}
 use Rattle.hold_vsyntax.proofs.syntax.refused.Goals as goal

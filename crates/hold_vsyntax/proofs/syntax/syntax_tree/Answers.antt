@@ -9,4 +9,4 @@ pub returns-clause-only_refused : goal.returns-clause-only_refused
 returns-clause-only_refused c = λ f is. only_fault c.args.text.now c.module_of_text.result f c.module_of_text.ensures.read c.module_of_text.ensures.refused is
 
 pub returns-clause-named : goal.returns-clause-named
-returns-clause-named c = tree_named c.args.text.now c.module_of_text.result c.know_spelled.ensures c.module_of_text.ensures.read
+returns-clause-named c = tree_named c.args.text.now c.module_of_text.result c.know_names.ensures c.module_of_text.ensures.read

@@ -2,7 +2,7 @@ use Rattle.std.proofs.Common.{ℕ, List, ap, ◌∙◌, bytes_eq}
 use Rattle.std.specs.Prelude.{Vec}
 use Rattle.std.specs.declared.alloc.Global.{Global}
 use Rattle.std.specs.Map.{lookup}
-use Rattle.hold_vparse.specs.Barred.{found_or_none}
+use Rattle.hold_vparse.specs.inner.Barred.{found_or_none}
 use Rattle.hold_vparse.proofs.barred_names.BarredNames.find.Goals as goal
 
 pub returns-in-Some : goal.returns-in-Some

@@ -1,8 +1,8 @@
 use Rattle.std.proofs.Common.{◌≡◌, ap, ◌∙◌, is_some}
 use Rattle.hold_netlist.specs.NameTable.{number_of}
 use Rattle.hold_netlist.specs.Names.{is_among}
-use Rattle.hold_vparse.specs.Index.{place_of}
-use Rattle.hold_vparse.specs.Flat.{targets}
+use Rattle.hold_vparse.specs.inner.Index.{place_of}
+use Rattle.hold_vparse.specs.inner.Flat.{targets}
 use Rattle.hold_vparse.specs.Nets.{names}
 use Rattle.hold_vparse.proofs.IndexLemmas.{is_some-place_of}
 use Rattle.hold_vparse.proofs.index.Index.has.Goals as goal

@@ -1,7 +1,7 @@
 use Rattle.std.proofs.Common.{◌≡◌, ap, sym, ◌∙◌}
 use Rattle.std.specs.Prelude.{None, Some}
 use Rattle.hold_netlist.specs.Names.{wire_names}
-use Rattle.hold_vparse.specs.Index.{place_of}
+use Rattle.hold_vparse.specs.inner.Index.{place_of}
 use Rattle.hold_vparse.proofs.LayoutLemmas.{first-lt, first-at, first_bit-none}
 use Rattle.hold_vparse.proofs.layout.Layout.first_bit.Goals as goal
 

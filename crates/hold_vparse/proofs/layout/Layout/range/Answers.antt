@@ -1,7 +1,7 @@
 use Rattle.std.proofs.Common.{◌≡◌, ap, sym, ◌∙◌}
 use Rattle.std.specs.Prelude.{None, Some}
 use Rattle.hold_netlist.specs.Names.{wire_names}
-use Rattle.hold_vparse.specs.Index.{place_of}
+use Rattle.hold_vparse.specs.inner.Index.{place_of}
 use Rattle.hold_vparse.proofs.LayoutLemmas.{wire-lt, range-at}
 use Rattle.hold_vparse.proofs.LineLemmas.{reach-none}
 use Rattle.hold_vparse.proofs.layout.Layout.range.Goals as goal

@@ -1,5 +1,5 @@
 use Rattle.std.proofs.Common.{◌∙◌}
-use Rattle.hold_vparse.specs.Measured.{measured_bounds}
+use Rattle.hold_vparse.specs.inner.Measured.{measured_bounds}
 use Rattle.hold_vparse.proofs.RangeLemmas.{same_bounds_by_classes}
 use Rattle.hold_vparse.proofs.measured.Measured.has_bounds_of.Goals as goal
 

@@ -1,4 +1,4 @@
-use Rattle.hold_vparse.specs.Measured.{measured_bounds}
+use Rattle.hold_vparse.specs.inner.Measured.{measured_bounds}
 use Rattle.hold_vparse.proofs.RangeLemmas.{same_width_by_classes}
 use Rattle.hold_vparse.proofs.measured.Measured.has_width_of.Goals as goal
 

@@ -1,6 +1,6 @@
 use Rattle.std.proofs.Common.{ap, ◌∙◌}
 use Rattle.hold_netlist.specs.Names.{wire_names}
-use Rattle.hold_vparse.specs.Index.{place_of}
+use Rattle.hold_vparse.specs.inner.Index.{place_of}
 use Rattle.hold_vparse.specs.Nets.{names}
 use Rattle.hold_vparse.proofs.LineLemmas.{names-idents}
 use Rattle.hold_vparse.proofs.nets.Nets.place.Goals as goal

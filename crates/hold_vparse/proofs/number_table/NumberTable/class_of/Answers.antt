@@ -1,5 +1,5 @@
 use Rattle.std.proofs.Common.{ap, ◌∙◌, sym, slice_get, List, ℕ}
-use Rattle.hold_vparse.specs.NumberTable.{IsClassed}
+use Rattle.hold_vparse.specs.inner.NumberTable.{IsClassed}
 use Rattle.hold_vparse.proofs.NumberTableLemmas.{class_known, class_added, classed_added}
 use Rattle.hold_vparse.proofs.number_table.NumberTable.class_of.Goals as goal
 

@@ -1,6 +1,6 @@
 use Rattle.std.proofs.Common.{Some, None, ap, ◌∙◌}
-use Rattle.hold_vparse.specs.Index.{at_place}
-use Rattle.hold_vparse.specs.Measured.{measured_bounds}
+use Rattle.hold_vparse.specs.inner.Index.{at_place}
+use Rattle.hold_vparse.specs.inner.Measured.{measured_bounds}
 use Rattle.hold_vparse.proofs.RangeLemmas.{found_at, bounds_at, classes_at}
 use Rattle.hold_vparse.specs.PortFaults.{same_range}
 use Rattle.hold_vparse.proofs.range_table.RangeTable.have_same_bounds.Goals as goal

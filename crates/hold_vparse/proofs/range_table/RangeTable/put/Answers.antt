@@ -1,5 +1,5 @@
 use Rattle.std.proofs.Common.{subst, sym}
-use Rattle.hold_vparse.specs.Measured.{HaveClasses}
+use Rattle.hold_vparse.specs.inner.Measured.{HaveClasses}
 use Rattle.hold_vparse.proofs.RangeLemmas.{HaveClasses-kept, HaveClasses-push}
 use Rattle.hold_vparse.proofs.range_table.RangeTable.put.Goals as goal
 

@@ -1,6 +1,6 @@
 use Rattle.std.proofs.Common.{◌≡◌, ◌∙◌, ◌++◌, ap, take, sym, arith}
 use Rattle.std.proofs.lemmas.List.{take-map}
-use Rattle.hold_vparse.specs.Index.{at_place}
+use Rattle.hold_vparse.specs.inner.Index.{at_place}
 use Rattle.hold_vparse.proofs.RangeLemmas.{nets_put}
 use Rattle.hold_vparse.proofs.ranges.Ranges.add_first_ports.Goals as goal
 

@@ -1,5 +1,5 @@
 use Rattle.std.proofs.Common.{◌∷◌, [], ap}
-use Rattle.hold_vparse.specs.Ranges.{line_range}
+use Rattle.hold_vparse.specs.inner.Ranges.{line_range}
 use Rattle.hold_vparse.proofs.RangeLemmas.{place_range, nets_put}
 use Rattle.hold_vparse.proofs.ranges.Ranges.add_port.Goals as goal
 

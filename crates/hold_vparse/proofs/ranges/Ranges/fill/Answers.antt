@@ -1,7 +1,7 @@
 use Rattle.std.proofs.Common.{◌≡◌, ◌≤◌, ◌-◌, ◌++◌, ◌∙◌, ap, length, replicate, take, vec_len, arith, sym}
 use Rattle.std.specs.Prelude.{None}
 use Rattle.std.proofs.lemmas.List.{take_all, length-map}
-use Rattle.hold_vparse.specs.Index.{at_place}
+use Rattle.hold_vparse.specs.inner.Index.{at_place}
 use Rattle.hold_vparse.proofs.RangeLemmas.{nets_put, filled}
 use Rattle.hold_vparse.proofs.ranges.Ranges.fill.Goals as goal
 

@@ -1,5 +1,5 @@
 use Rattle.std.proofs.Common.{ap, ◌+◌, ◌∙◌}
-use Rattle.hold_vsyntax.specs.NumberOrder.{is_equal}
+use Rattle.hold_vsyntax.specs.inner.NumberOrder.{is_equal}
 use Rattle.hold_vsyntax.proofs.OrderLemmas.{is_equal-nat_cmp}
 use Rattle.hold_vsyntax.proofs.number.order.has_same_sums.Goals as goal
 

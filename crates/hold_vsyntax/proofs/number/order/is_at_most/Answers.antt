@@ -1,5 +1,5 @@
 use Rattle.std.proofs.Common.{ap, ◌∙◌}
-use Rattle.hold_vsyntax.specs.NumberOrder.{is_not_greater}
+use Rattle.hold_vsyntax.specs.inner.NumberOrder.{is_not_greater}
 use Rattle.hold_vsyntax.proofs.OrderLemmas.{is_below-nat_cmp}
 use Rattle.hold_vsyntax.proofs.number.order.is_at_most.Goals as goal
 

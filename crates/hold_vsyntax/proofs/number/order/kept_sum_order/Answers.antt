@@ -1,7 +1,7 @@
 use Rattle.std.proofs.Common.{ℕ, ◌+◌, ◌*◌, ◌-◌, ◌≤◌, ap, sym, ◌∙◌, arith, length}
 use Rattle.std.specs.Ordering.{nat_cmp}
-use Rattle.hold_vsyntax.specs.Number.{value_of}
-use Rattle.hold_vsyntax.specs.NumberOrder.{digits_of, last_sums, horner}
+use Rattle.hold_vsyntax.specs.inner.Number.{value_of}
+use Rattle.hold_vsyntax.specs.inner.NumberOrder.{digits_of, last_sums, horner}
 use Rattle.hold_vsyntax.proofs.OrderLemmas.{value_of-sums, order_step, far_greater, far_less}
 use Rattle.hold_vsyntax.proofs.number.order.kept_sum_order.Goals as goal
 

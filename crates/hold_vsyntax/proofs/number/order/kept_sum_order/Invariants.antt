@@ -1,7 +1,7 @@
 use Rattle.std.proofs.Common.{◌≡◌, ◌+◌, ◌<◌}
 use Rattle.std.specs.Ordering.{nat_cmp}
-use Rattle.hold_vsyntax.specs.Number.{value_of}
-use Rattle.hold_vsyntax.specs.NumberOrder.{digits_of, last_sums, horner}
+use Rattle.hold_vsyntax.specs.inner.Number.{value_of}
+use Rattle.hold_vsyntax.specs.inner.NumberOrder.{digits_of, last_sums, horner}
 use Rattle.hold_vsyntax.proofs.number.order.kept_sum_order.Given as goal
 
 -- the last places, behind what is left of the first ones, compare as the sums do

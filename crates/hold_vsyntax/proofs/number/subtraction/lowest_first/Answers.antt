@@ -1,7 +1,9 @@
-use Rattle.std.proofs.Common.{◌≡◌, ◌+◌, ◌-◌, ◌*◌, List, ℕ, map, refl, sym, subst, arith}
+use Rattle.std.proofs.Common.{◌≡◌, ◌+◌, ◌-◌, ◌*◌, List, ℕ, map, refl, sym, ◌∙◌, subst, arith}
 use Rattle.std.proofs.lemmas.List.{length-map}
-use Rattle.hold_vsyntax.specs.Number.{number_of, value_of}
-use Rattle.hold_vsyntax.specs.NumberOrder.{digits_of, horner}
+use Rattle.hold_base.specs.Digits.{number_of}
+use Rattle.hold_vsyntax.specs.inner.Number.{value_of}
+use Rattle.hold_vsyntax.specs.inner.NumberOrder.{digits_of, horner}
+use Rattle.hold_vsyntax.proofs.NumberLemmas.{number_from-zero}
 use Rattle.hold_vsyntax.proofs.OrderLemmas.{number_from-horner, value_of-horner}
 use Rattle.hold_vsyntax.proofs.SubtractionLemmas.{IsTaken, IsTaken-none, IsTaken-more, IsTaken-all, digit_in-small}
 use Rattle.hold_vsyntax.proofs.number.subtraction.lowest_first.Goals as goal
@@ -26,7 +28,7 @@ loop-behind-preserved c = record {
 
 pub returns-clause-value : goal.returns-clause-value
 returns-clause-value c =
-    let has : number_of c.args.greater.now ≡ horner 0 (map (λ (d : ℕ). d - 48) c.args.greater.now) = number_from-horner 0 c.args.greater.now in
+    let has : number_of c.args.greater.now ≡ horner 0 (map (λ (d : ℕ). d - 48) c.args.greater.now) = sym (number_from-zero c.args.greater.now) ∙ number_from-horner 0 c.args.greater.now in
     let due : value_of c.args.less.now ≡ horner 0 (digits_of c.args.less.now) = value_of-horner c.args.less.now in
     let all = IsTaken-all c.loop-behind.behind c.loop-behind.owed c.loop-behind.digits.items (map (λ (d : ℕ). d - 48) c.args.greater.now) (digits_of c.args.less.now)
     c.loop-behind.invariant.taken (omega (arith, length-map c.args.greater.now (λ (d : ℕ). d - 48), c.max-count.ensures, c.loop-behind-test.false))

@@ -1,5 +1,5 @@
 use Rattle.std.proofs.Common.{◌-◌, ◌≤◌, map}
-use Rattle.hold_vsyntax.specs.NumberOrder.{digits_of}
+use Rattle.hold_vsyntax.specs.inner.NumberOrder.{digits_of}
 use Rattle.hold_vsyntax.proofs.SubtractionLemmas.{IsTaken}
 use Rattle.hold_vsyntax.proofs.number.subtraction.lowest_first.Given as goal
 

@@ -1,0 +1,14 @@
+pub mod Bounds
+pub mod Index
+pub mod Found
+pub mod Measured
+pub mod Ranges
+pub mod Widths
+pub mod NumberTable
+pub mod Roles
+pub mod Flat
+pub mod Uses
+pub mod Barred
+pub mod DeclaredNetlist
+pub mod Clear
+pub mod DesignWith

@@ -1,0 +1,23 @@
+mod CanonicalTree
+mod BitPlaces
+mod Statements
+mod Pairs
+mod BitParts
+mod Placed
+mod PortLines
+mod DeclaredNets
+mod DeclaredDesign
+mod Clear
+mod NoDoubles
+mod NoFaults
+mod TreeParts
+mod TreeBits
+mod CanonicalDesign
+mod Spells
+mod SpelledTokens
+mod SpelledBits
+mod SpelledLines
+mod SpelledText
+mod ModulePieces
+mod CanonicalIsTree
+pub mod CanonicalReads

@@ -1,0 +1,10 @@
+pub mod Number
+pub mod NumberOrder
+pub mod Symbols
+pub mod Shown
+pub mod Tokens
+pub mod Reading
+pub mod Gives
+pub mod Passing
+pub mod Body
+pub mod Whole
