@@ -9,10 +9,11 @@ use Rattle.hold_netlist.specs.Design.{Design}
 use Rattle.hold_netlist.specs.CanonicalText.{canonical_text}
 use Rattle.hold_cli.specs.Command.{IsRepair}
 use Rattle.hold_cli.specs.Outcome.{GivesUp}
-use Rattle.hold_cli.specs.Front.{IsJobAt, IsJobRead, IsNetlistRead, IsBuilt, HoldsOneReading, BlamesNetlist, Blames, IsTold, RefusesJob, Refuses, IsFront}
+use Rattle.hold_cli.specs.Front.{IsJobAt, IsJobRead, IsNetlistRead, IsBuilt, BlamesNetlist, Blames, IsTold, RefusesJob, Refuses, IsFront}
 use Rattle.hold_cli.specs.RefusalLine.{refusal_line}
 use Rattle.hold_cli.specs.Texts.{Ready, NotAmong, IsDone}
-use Rattle.hold_cli.specs.Answer.{only_line, repair_texts, IsVerdict, AreTexts, Comes, IsJudged, IsAnswer, IsRefusal, IsDelivery}
+use Rattle.hold_cli.specs.Answer.{only_line, repair_texts, IsVerdict, AreTexts, Comes}
+use Rattle.hold_cli.specs.inner.Answer.{IsJudged, IsAnswer, IsRefusal, IsDelivery}
 use Rattle.hold_cli.proofs.TextsLemmas.{IsDone-after, Fails-after, Fails-keeps}
 use Rattle.hold_cli.proofs.JobApart.{IsJobText-apart}
 use Rattle.hold_cli.proofs.JobFormLemmas.{IsJobText-unique}
@@ -31,7 +32,7 @@ verdict_comes old name job netlist Memory ready front never = absurd never
 verdict_comes old name job netlist Words ready front never = absurd never
 
 module _ (old mid new : Told) (name : List ℕ) (job : Job) (netlist : Design) (reads : OnlyReads old mid) (read : IsJobRead old name job)
-    (netlist_read : IsNetlistRead old job netlist) (built : IsBuilt job netlist) (one : HoldsOneReading old name) (front : IsTold old name → IsFront old name job netlist) where
+    (netlist_read : IsNetlistRead old job netlist) (built : IsBuilt job netlist) (front : IsTold old name → IsFront old name job netlist) where
   judged : (outcome : Outcome) (ready : Ready) → IsVerdict job netlist outcome ready → IsDone mid new ready → IsJudged old new name outcome
   judged outcome ready verdict done = record {
     job = job;
@@ -40,7 +41,6 @@ module _ (old mid new : Told) (name : List ℕ) (job : Job) (netlist : Design) (
     read = read;
     netlist_read = netlist_read;
     built = built;
-    one = one;
     verdict = verdict;
     done = IsDone-after old mid new ready reads done;
     front = front;
@@ -53,7 +53,6 @@ module _ (old mid new : Told) (name : List ℕ) (job : Job) (netlist : Design) (
     ready = is.1;
     fails = Fails-after old mid new is.1 reads is.3;
     texts = inr (job, netlist, is.0, read, netlist_read, built, is.2);
-    one = one;
     comes = λ told. (is.0, verdict_comes old name job netlist is.0 is.1 (front told) is.2);
   }
   delivered Memory same = subst (λ (t : Told). OnlyReads old t) same reads
@@ -64,26 +63,24 @@ module _ (old mid new : Told) (name : List ℕ) (job : Job) (netlist : Design) (
 pub refused : (old mid new : Told) (name : List ℕ) (fault : Fault) (outcome : Outcome) → OnlyReads old mid
     → (IsTold old name → Refuses old name fault)
     → ((text : List ℕ) → old.content name ≡ Some text → RefusesJob old name fault ⊎ ((job : Job) × IsJobAt old name job × BlamesNetlist old job fault))
-    → Blames old name fault → HoldsOneReading old name → IsRefusal mid new fault outcome → IsAnswer old new name outcome
-refused old mid new name fault (Input answered) reads refuses first blames one done = record {
+    → Blames old name fault → IsRefusal mid new fault outcome → IsAnswer old new name outcome
+refused old mid new name fault (Input answered) reads refuses first blames done = record {
   refuses = λ told. subst (λ (f : Fault). Refuses old name f) (sym done.0) (refuses told);
   first = subst (λ (f : Fault). (text : List ℕ) → old.content name ≡ Some text → RefusesJob old name f ⊎ ((job : Job) × IsJobAt old name job × BlamesNetlist old job f)) (sym done.0) first;
   blames = subst (λ (f : Fault). Blames old name f) (sym done.0) blames;
-  one = one;
   done = subst (λ (f : Fault). IsDone old new (only_line (refusal_line f))) (sym done.0) (IsDone-after old mid new (only_line (refusal_line fault)) reads done.1);
 }
-refused old mid new name fault WriteFault reads refuses first blames one fails = record {
+refused old mid new name fault WriteFault reads refuses first blames fails = record {
   ready = only_line (refusal_line fault);
   fails = Fails-after old mid new (only_line (refusal_line fault)) reads (inr fails);
   texts = inl (fault, first, blames, refl);
-  one = one;
   comes = λ told. (Input fault, (refuses told, refl));
 }
-refused old mid new name fault Memory reads refuses first blames one same = subst (λ (t : Told). OnlyReads old t) same reads
-refused old mid new name fault (Repaired cost) reads refuses first blames one never = absurd never
-refused old mid new name fault (NeedsPadding path short) reads refuses first blames one never = absurd never
-refused old mid new name fault (ReadFault file) reads refuses first blames one never = absurd never
-refused old mid new name fault Words reads refuses first blames one never = absurd never
+refused old mid new name fault Memory reads refuses first blames same = subst (λ (t : Told). OnlyReads old t) same reads
+refused old mid new name fault (Repaired cost) reads refuses first blames never = absurd never
+refused old mid new name fault (NeedsPadding path short) reads refuses first blames never = absurd never
+refused old mid new name fault (ReadFault file) reads refuses first blames never = absurd never
+refused old mid new name fault Words reads refuses first blames never = absurd never
 
 -- words name one job
 pub one_repair : (words : List (List ℕ)) (a b : List ℕ) → IsRepair words a → IsRepair words b → a ≡ b
@@ -92,14 +89,14 @@ one_repair words a b first second = let e = first.words_are in let f = second.wo
 -- what is refused is not judged
 refused_or_judged : (old new : Told) (name : List ℕ) (fault : Fault) (outcome : Outcome) → IsJudged old new name outcome → Refuses old name fault → ⊥
 refused_or_judged old new name fault outcome answer refuses =
-    refused_or_front old name fault answer.job answer.netlist answer.one refuses (answer.front (refused_told old name fault refuses))
+    refused_or_front old name fault answer.job answer.netlist refuses (answer.front (refused_told old name fault refuses))
 
 refused_alone : (old new : Told) (name : List ℕ) (fault : Fault) (outcome : Outcome) → IsAnswer old new name outcome → Refuses old name fault
     → (outcome ≡ Input fault) ⊎ GivesUp outcome
 refused_alone old new name fault (Repaired cost) answer refuses = absurd (refused_or_judged old new name fault (Repaired cost) answer refuses)
 refused_alone old new name fault (NeedsPadding path short) answer refuses = absurd (refused_or_judged old new name fault (NeedsPadding path short) answer refuses)
 refused_alone old new name fault (Input other) answer refuses =
-    inl (ap Input (one_fault old name other fault answer.one (answer.refuses (refused_told old name fault refuses)) refuses))
+    inl (ap Input (one_fault old name other fault (answer.refuses (refused_told old name fault refuses)) refuses))
 refused_alone old new name fault (ReadFault file) answer refuses = inr tt
 refused_alone old new name fault WriteFault answer refuses = inr tt
 refused_alone old new name fault Memory answer refuses = inr tt

@@ -1,5 +1,6 @@
 -- Where no call failed that the work makes, the verdict on a netlist that nothing refuses is answered, unless memory ran out.
-use Rattle.std.proofs.Common.{◌≡◌, ◌⊎◌, inl, inr, ℕ, ℤ, List, [], ◌∷◌, ◌++◌, refl, ap, subst}
+use Rattle.std.proofs.Common.{◌≡◌, ◌⊎◌, inl, inr, ℕ, ℤ, List, [], ◌∷◌, ◌++◌, refl, ap, sym, subst}
+use Rattle.hold_base.proofs.Lists.{append-nil_right}
 use Rattle.hold_files.specs.Told.{Told, Rose}
 use Rattle.hold_cli.specs.declared.job_form.Job.{Job}
 use Rattle.hold_cli.specs.declared.outcome.Outcome.{Outcome}
@@ -8,10 +9,11 @@ use Rattle.hold_graph.specs.declared.problem.Listed.{Listed}
 use Rattle.hold_netlist.specs.Design.{Design}
 use Rattle.hold_netlist.specs.CanonicalText.{canonical_text}
 use Rattle.hold_cli.specs.Command.{IsRepair}
-use Rattle.hold_cli.specs.Front.{IsJobAt, HoldsOneReading, ComesTo, IsFront}
+use Rattle.hold_cli.specs.Front.{IsJobAt, ComesTo, IsFront}
 use Rattle.hold_cli.specs.PaddingLine.{padding_line}
 use Rattle.hold_cli.specs.Texts.{Ready, FailsInFile, Fails}
-use Rattle.hold_cli.specs.Answer.{only_line, repair_texts, whole_certificate, Comes, IsCalm, IsAnswer}
+use Rattle.hold_cli.specs.Answer.{only_line, repair_texts, whole_certificate, Comes, IsCalm}
+use Rattle.hold_cli.specs.inner.Answer.{IsAnswer}
 use Rattle.hold_cli.proofs.FrontLemmas.{one_job_at, front_told, refused_or_front}
 use Rattle.hold_cli.proofs.Answers.{one_repair}
 
@@ -44,27 +46,24 @@ calm_texts old new name text job calm (inl fails) = calm_file old new name text 
 calm_texts old new name text job calm (inr fails) = calm.line_said fails.cause
 
 -- a line alone has no file that could fail
-no_file : (file : List ℕ × List ℕ) (done rest : List (List ℕ × List ℕ)) → [] ≡ done ++ file ∷ rest → ⊥
-no_file file [] rest e = cc
-no_file file (f ∷ done) rest e = cc
-
 calm_line : (old new : Told) (name line : List ℕ) (job : Job) → IsCalm old new name job → Fails old new (only_line line) → ⊥
-calm_line old new name line job calm (inl fails) = no_file (fails.file, fails.text) fails.done fails.rest fails.parts
+calm_line old new name line job calm (inl fails) =
+    let none : (fails.file, fails.text) ∷ fails.rest ≡ [] = append-nil_right fails.done ((fails.file, fails.text) ∷ fails.rest) (sym fails.parts) in cc
 calm_line old new name line job calm (inr fails) = calm.line_said fails.cause
 
-calm_comes : (old new : Told) (name : List ℕ) (job : Job) (netlist : Design) (outcome : Outcome) (ready : Ready) → HoldsOneReading old name → IsFront old name job netlist
+calm_comes : (old new : Told) (name : List ℕ) (job : Job) (netlist : Design) (outcome : Outcome) (ready : Ready) → IsFront old name job netlist
     → IsCalm old new name job → Comes old name outcome ready → Fails old new ready → ⊥
-calm_comes old new name job netlist (Input fault) ready one front calm comes fails = refused_or_front old name fault job netlist one comes.0 front
-calm_comes old new name job netlist (Repaired cost) ready one front calm comes fails =
+calm_comes old new name job netlist (Input fault) ready front calm comes fails = refused_or_front old name fault job netlist comes.0 front
+calm_comes old new name job netlist (Repaired cost) ready front calm comes fails =
     let same : comes.0 ≡ job = one_job_at old name comes.0 job comes.2.at front.at in
     let texts : Fails old new (repair_texts comes.0 (canonical_text comes.1)) = subst (λ (r : Ready). Fails old new r) comes.3.2 fails in
     calm_texts old new name (canonical_text comes.1) job calm (subst (λ (j : Job). Fails old new (repair_texts j (canonical_text comes.1))) same texts)
-calm_comes old new name job netlist (NeedsPadding path short) ready one front calm comes fails =
+calm_comes old new name job netlist (NeedsPadding path short) ready front calm comes fails =
     calm_line old new name (padding_line comes.0 comes.1 path short) job calm (subst (λ (r : Ready). Fails old new r) comes.3.1 fails)
-calm_comes old new name job netlist (ReadFault file) ready one front calm comes fails = comes
-calm_comes old new name job netlist WriteFault ready one front calm comes fails = comes
-calm_comes old new name job netlist Memory ready one front calm comes fails = comes
-calm_comes old new name job netlist Words ready one front calm comes fails = comes
+calm_comes old new name job netlist (ReadFault file) ready front calm comes fails = comes
+calm_comes old new name job netlist WriteFault ready front calm comes fails = comes
+calm_comes old new name job netlist Memory ready front calm comes fails = comes
+calm_comes old new name job netlist Words ready front calm comes fails = comes
 
 -- what a calm run comes to
 abbrev pub IsComplete : Outcome → Type 0
@@ -75,12 +74,12 @@ calm_answer : (old new : Told) (name : List ℕ) (job : Job) (netlist : Design) 
 calm_answer old new name job netlist (Repaired cost) answer front calm = inl (ap Repaired answer.verdict.0)
 calm_answer old new name job netlist (NeedsPadding path short) answer front calm = inr (inl (path, short, refl))
 calm_answer old new name job netlist (Input fault) answer front calm =
-    absurd (refused_or_front old name fault job netlist answer.one (answer.refuses (front_told old name job netlist front)) front)
+    absurd (refused_or_front old name fault job netlist (answer.refuses (front_told old name job netlist front)) front)
 calm_answer old new name job netlist (ReadFault file) answer front calm =
     absurd (calm_read old new name file job calm front.at answer.cause (answer.comes front.at.text front.at.has.content))
 calm_answer old new name job netlist WriteFault answer front calm =
     let comes = answer.comes (front_told old name job netlist front) in
-    absurd (calm_comes old new name job netlist comes.0 answer.ready answer.one front calm comes.1 answer.fails)
+    absurd (calm_comes old new name job netlist comes.0 answer.ready front calm comes.1 answer.fails)
 calm_answer old new name job netlist Memory answer front calm = inr (inr refl)
 calm_answer old new name job netlist Words answer front calm = absurd answer
 

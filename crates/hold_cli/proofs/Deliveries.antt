@@ -12,7 +12,8 @@ use Rattle.hold_netlist.specs.CanonicalText.{canonical_text}
 use Rattle.hold_plain.specs.Problem.{problem_of}
 use Rattle.hold_cli.specs.PaddingLine.{padding_line}
 use Rattle.hold_cli.specs.Texts.{IsDone, FailsInLine, Fails}
-use Rattle.hold_cli.specs.Answer.{only_line, repair_texts, IsDelivery}
+use Rattle.hold_cli.specs.Answer.{only_line, repair_texts}
+use Rattle.hold_cli.specs.inner.Answer.{IsDelivery}
 
 pub repair_done : (old new : Told) (job : Job) (netlist : Design) (text : List ℕ) → text ≡ canonical_text netlist
     → IsMet (problem_of job.timing netlist) no_buffers → IsDone old new (repair_texts job text) → IsDelivery old new job netlist (Repaired 0)

@@ -9,7 +9,8 @@ use Rattle.hold_cli.proofs.JobFormLemmas.{IsJobText-unique}
 use Rattle.hold_netlist.specs.Design.{Design}
 use Rattle.hold_vparse.specs.declared.fault.VerilogFault.{VerilogFault}
 use Rattle.hold_vparse.specs.Reads.{Reads, IsFirstFault}
-use Rattle.hold_cli.specs.Front.{IsBuilt, HasOneReading, HasText, IsTooLong, IsJobAt, IsNetlistAt, HoldsOneReading, HasNoJob, HasNoNetlist, HasFault, IsTold, RefusesJob, RefusesNetlist, Refuses, IsFront}
+use Rattle.hold_vparse.proofs.OneReading.{one_netlist, reads_or_fault, one_first_fault}
+use Rattle.hold_cli.specs.Front.{IsBuilt, HasText, IsTooLong, IsJobAt, IsNetlistAt, HasNoJob, HasNoNetlist, HasFault, IsTold, RefusesJob, RefusesNetlist, Refuses, IsFront}
 
 one_text : (told : Told) (file a b : List ℕ) → told.content file ≡ Some a → told.content file ≡ Some b → a ≡ b
 one_text told file a b first second = cc
@@ -31,43 +32,39 @@ none_or_job told name job none at =
     let same : at.text ≡ none.text = one_text told name at.text none.text at.has.content none.has.content in
     none.none job (subst (λ (t : List ℕ). IsJobText t name job) same at.says)
 
--- the texts of one netlist's file have one reading
-abbrev pub OneOf : Told → Job → Type 0
-OneOf told job = (text : List ℕ) → HasText told job.netlist text → HasOneReading text
-
-none_or_netlist : (told : Told) (job : Job) (netlist : Design) → OneOf told job → HasNoNetlist told job → IsBuilt job netlist → IsNetlistAt told job netlist → ⊥
-none_or_netlist told job netlist one none built held =
+none_or_netlist : (told : Told) (job : Job) (netlist : Design) → HasNoNetlist told job → IsBuilt job netlist → IsNetlistAt told job netlist → ⊥
+none_or_netlist told job netlist none built held =
     let same : none.text ≡ held.text = one_text told job.netlist none.text held.text none.has.content held.has.content in
     let reads : Reads held.text none.is.netlist = subst (λ (t : List ℕ). Reads t none.is.netlist) same none.is.reads in
-    let netlists : netlist ≡ none.is.netlist = (one held.text held.has).netlists netlist none.is.netlist held.reads reads in
+    let netlists : netlist ≡ none.is.netlist = one_netlist held.text netlist none.is.netlist held.reads reads in
     none.is.unbuilt (subst (λ (d : Design). IsBuilt job d) netlists built)
 
-fault_or_netlist : (told : Told) (job : Job) (netlist : Design) (fault : VerilogFault) → OneOf told job → HasFault told job fault → IsNetlistAt told job netlist → ⊥
-fault_or_netlist told job netlist fault one has held =
+fault_or_netlist : (told : Told) (job : Job) (netlist : Design) (fault : VerilogFault) → HasFault told job fault → IsNetlistAt told job netlist → ⊥
+fault_or_netlist told job netlist fault has held =
     let same : has.text ≡ held.text = one_text told job.netlist has.text held.text has.has.content held.has.content in
-    (one held.text held.has).apart netlist fault held.reads (subst (λ (t : List ℕ). IsFirstFault t fault) same has.first)
+    reads_or_fault held.text netlist fault held.reads (subst (λ (t : List ℕ). IsFirstFault t fault) same has.first)
 
-fault_or_none : (told : Told) (job : Job) (fault : VerilogFault) → OneOf told job → HasFault told job fault → HasNoNetlist told job → ⊥
-fault_or_none told job fault one has none =
+fault_or_none : (told : Told) (job : Job) (fault : VerilogFault) → HasFault told job fault → HasNoNetlist told job → ⊥
+fault_or_none told job fault has none =
     let same : has.text ≡ none.text = one_text told job.netlist has.text none.text has.has.content none.has.content in
-    (one none.text none.has).apart none.is.netlist fault none.is.reads (subst (λ (t : List ℕ). IsFirstFault t fault) same has.first)
+    reads_or_fault none.text none.is.netlist fault none.is.reads (subst (λ (t : List ℕ). IsFirstFault t fault) same has.first)
 
-one_first_fault : (told : Told) (job : Job) (a b : VerilogFault) → OneOf told job → HasFault told job a → HasFault told job b → a ≡ b
-one_first_fault told job a b one first second =
+one_file_fault : (told : Told) (job : Job) (a b : VerilogFault) → HasFault told job a → HasFault told job b → a ≡ b
+one_file_fault told job a b first second =
     let same : first.text ≡ second.text = one_text told job.netlist first.text second.text first.has.content second.has.content in
-    (one second.text second.has).faults a b (subst (λ (t : List ℕ). IsFirstFault t a) same first.first) second.first
+    one_first_fault second.text a b (subst (λ (t : List ℕ). IsFirstFault t a) same first.first) second.first
 
 -- a job that is refused is no job
-pub refused_or_job : (told : Told) (name : List ℕ) (fault : Fault) (job : Job) → RefusesJob told name fault → IsJobAt told name job → ⊥
+refused_or_job : (told : Told) (name : List ℕ) (fault : Fault) (job : Job) → RefusesJob told name fault → IsJobAt told name job → ⊥
 refused_or_job told name (TooLong file) job refuses at = long_or_held told name at.text refuses.0 at.has
 refused_or_job told name (Verilog fault) job refuses at = refuses
 refused_or_job told name (NotBuilt file) job refuses at = none_or_job told name job refuses.0 at
 
-refused_or_netlist : (told : Told) (job : Job) (fault : Fault) (netlist : Design) → OneOf told job → RefusesNetlist told job fault → IsBuilt job netlist
+refused_or_netlist : (told : Told) (job : Job) (fault : Fault) (netlist : Design) → RefusesNetlist told job fault → IsBuilt job netlist
     → IsNetlistAt told job netlist → ⊥
-refused_or_netlist told job (TooLong file) netlist one refuses built held = long_or_held told job.netlist held.text refuses.0 held.has
-refused_or_netlist told job (Verilog fault) netlist one refuses built held = fault_or_netlist told job netlist fault one refuses held
-refused_or_netlist told job (NotBuilt file) netlist one refuses built held = none_or_netlist told job netlist one refuses.0 built held
+refused_or_netlist told job (TooLong file) netlist refuses built held = long_or_held told job.netlist held.text refuses.0 held.has
+refused_or_netlist told job (Verilog fault) netlist refuses built held = fault_or_netlist told job netlist fault refuses held
+refused_or_netlist told job (NotBuilt file) netlist refuses built held = none_or_netlist told job netlist refuses.0 built held
 
 told_some : (told : Told) (file text : List ℕ) → told.content file ≡ Some text → IsSome (told.content file)
 told_some told file text is = rw is refl
@@ -102,12 +99,12 @@ front_told told name job netlist front = record {
 }
 
 -- what is refused is not repaired
-pub refused_or_front : (told : Told) (name : List ℕ) (fault : Fault) (job : Job) (netlist : Design) → HoldsOneReading told name → Refuses told name fault
+pub refused_or_front : (told : Told) (name : List ℕ) (fault : Fault) (job : Job) (netlist : Design) → Refuses told name fault
     → IsFront told name job netlist → ⊥
-refused_or_front told name fault job netlist one (inl refuses) front = refused_or_job told name fault job refuses front.at
-refused_or_front told name fault job netlist one (inr found) front =
+refused_or_front told name fault job netlist (inl refuses) front = refused_or_job told name fault job refuses front.at
+refused_or_front told name fault job netlist (inr found) front =
     let same : found.0 ≡ job = one_job_at told name found.0 job found.1 front.at in
-    refused_or_netlist told job fault netlist (one job front.at) (subst (λ (j : Job). RefusesNetlist told j fault) same found.2) front.built front.held
+    refused_or_netlist told job fault netlist (subst (λ (j : Job). RefusesNetlist told j fault) same found.2) front.built front.held
 
 job_fault : (told : Told) (name : List ℕ) (a b : Fault) → RefusesJob told name a → RefusesJob told name b → a ≡ b
 job_fault told name (TooLong file) (TooLong other) first second = ap TooLong (first.1 ∙ sym second.1)
@@ -118,32 +115,31 @@ job_fault told name (Verilog fault) b first second = absurd first
 job_fault told name (TooLong file) (Verilog fault) first second = absurd second
 job_fault told name (NotBuilt file) (Verilog fault) first second = absurd second
 
-netlist_fault : (told : Told) (job : Job) (a b : Fault) → OneOf told job → RefusesNetlist told job a → RefusesNetlist told job b → a ≡ b
-netlist_fault told job (TooLong file) (TooLong other) one first second = ap TooLong (first.1 ∙ sym second.1)
-netlist_fault told job (TooLong file) (Verilog fault) one first second = absurd (long_or_held told job.netlist second.text first.0 second.has)
-netlist_fault told job (TooLong file) (NotBuilt other) one first second = absurd (long_or_held told job.netlist second.0.text first.0 second.0.has)
-netlist_fault told job (Verilog fault) (TooLong other) one first second = absurd (long_or_held told job.netlist first.text second.0 first.has)
-netlist_fault told job (Verilog fault) (Verilog other) one first second = ap Verilog (one_first_fault told job fault other one first second)
-netlist_fault told job (Verilog fault) (NotBuilt other) one first second = absurd (fault_or_none told job fault one first second.0)
-netlist_fault told job (NotBuilt file) (TooLong other) one first second = absurd (long_or_held told job.netlist first.0.text second.0 first.0.has)
-netlist_fault told job (NotBuilt file) (Verilog fault) one first second = absurd (fault_or_none told job fault one second first.0)
-netlist_fault told job (NotBuilt file) (NotBuilt other) one first second = ap NotBuilt (first.1 ∙ sym second.1)
+netlist_fault : (told : Told) (job : Job) (a b : Fault) → RefusesNetlist told job a → RefusesNetlist told job b → a ≡ b
+netlist_fault told job (TooLong file) (TooLong other) first second = ap TooLong (first.1 ∙ sym second.1)
+netlist_fault told job (TooLong file) (Verilog fault) first second = absurd (long_or_held told job.netlist second.text first.0 second.has)
+netlist_fault told job (TooLong file) (NotBuilt other) first second = absurd (long_or_held told job.netlist second.0.text first.0 second.0.has)
+netlist_fault told job (Verilog fault) (TooLong other) first second = absurd (long_or_held told job.netlist first.text second.0 first.has)
+netlist_fault told job (Verilog fault) (Verilog other) first second = ap Verilog (one_file_fault told job fault other first second)
+netlist_fault told job (Verilog fault) (NotBuilt other) first second = absurd (fault_or_none told job fault first second.0)
+netlist_fault told job (NotBuilt file) (TooLong other) first second = absurd (long_or_held told job.netlist first.0.text second.0 first.0.has)
+netlist_fault told job (NotBuilt file) (Verilog fault) first second = absurd (fault_or_none told job fault second first.0)
+netlist_fault told job (NotBuilt file) (NotBuilt other) first second = ap NotBuilt (first.1 ∙ sym second.1)
 
 -- there is one first fault
-pub one_fault : (told : Told) (name : List ℕ) (a b : Fault) → HoldsOneReading told name → Refuses told name a → Refuses told name b → a ≡ b
-one_fault told name a b one (inl first) (inl second) = job_fault told name a b first second
-one_fault told name a b one (inl first) (inr found) = absurd (refused_or_job told name a found.0 first found.1)
-one_fault told name a b one (inr found) (inl second) = absurd (refused_or_job told name b found.0 second found.1)
-one_fault told name a b one (inr found) (inr other) =
-    netlist_fault told other.0 a b (one other.0 other.1)
-    (subst (λ (j : Job). RefusesNetlist told j a) (one_job_at told name found.0 other.0 found.1 other.1) found.2) other.2
+pub one_fault : (told : Told) (name : List ℕ) (a b : Fault) → Refuses told name a → Refuses told name b → a ≡ b
+one_fault told name a b (inl first) (inl second) = job_fault told name a b first second
+one_fault told name a b (inl first) (inr found) = absurd (refused_or_job told name a found.0 first found.1)
+one_fault told name a b (inr found) (inl second) = absurd (refused_or_job told name b found.0 second found.1)
+one_fault told name a b (inr found) (inr other) =
+    netlist_fault told other.0 a b (subst (λ (j : Job). RefusesNetlist told j a) (one_job_at told name found.0 other.0 found.1 other.1) found.2) other.2
 
 -- the netlist that was read is the one that the files hold
-pub one_front : (told : Told) (name : List ℕ) (job read_job : Job) (netlist read : Design) → HoldsOneReading told name → IsFront told name job netlist
+pub one_front : (told : Told) (name : List ℕ) (job read_job : Job) (netlist read : Design) → IsFront told name job netlist
     → IsFront told name read_job read → (read_job ≡ job) × (read ≡ netlist)
-one_front told name job read_job netlist read one front now =
+one_front told name job read_job netlist read front now =
     let jobs : read_job ≡ job = one_job_at told name read_job job now.at front.at in
     let held : IsNetlistAt told job read = subst (λ (j : Job). IsNetlistAt told j read) jobs now.held in
     let same : held.text ≡ front.held.text = one_text told job.netlist held.text front.held.text held.has.content front.held.has.content in
     let reads : Reads front.held.text read = subst (λ (t : List ℕ). Reads t read) same held.reads in
-    (jobs, (one job front.at front.held.text front.held.has).netlists read netlist reads front.held.reads)
+    (jobs, one_netlist front.held.text read netlist reads front.held.reads)

@@ -1,5 +1,5 @@
 -- The order of work, step by step: what is refused at a step is the first refusal over the files as they were at the beginning.
-use Rattle.std.proofs.Common.{◌≡◌, inr, ℕ, ◌<◌, ◌≤◌, arith, List, Option, Some, None, IsSome, refl, ap, sym, ◌∙◌, subst, length}
+use Rattle.std.proofs.Common.{◌≡◌, inr, ℕ, ◌≤◌, List, Option, Some, None, IsSome, refl, ap, sym, ◌∙◌, subst, length}
 use Rattle.hold_files.specs.Told.{Told, OnlyReads}
 use Rattle.hold_cli.specs.declared.job_form.Job.{Job}
 use Rattle.hold_cli.specs.declared.input.Stopped.TheVariants.{Refused}
@@ -7,10 +7,9 @@ use Rattle.hold_cli.specs.declared.outcome.Fault.{Fault}
 use Rattle.hold_cli.specs.declared.outcome.Fault.TheVariants.{TooLong, Verilog, NotBuilt}
 use Rattle.hold_cli.specs.JobForm.{IsJobText}
 use Rattle.hold_netlist.specs.Design.{Design}
-use Rattle.hold_vparse.specs.Reads.{Reads}
-use Rattle.hold_cli.specs.Front.{file_limit, IsBuilt, HasOneReading, HasText, IsJobAt, IsNetlistAt, HoldsOneReading, IsJobRead, IsNetlistRead, BlamesNetlist, IsTold, RefusesText, RefusesJob, RefusesNetlist, Refuses, IsFront}
-use Rattle.hold_cli.proofs.FrontLemmas.{refused_or_job}
-use Rattle.hold_cli.proofs.JobFormLemmas.{IsJobText-unique}
+use Rattle.hold_base.specs.Limits.{file_limit}
+use Rattle.hold_cli.specs.Front.{IsBuilt, HasText, IsJobAt, IsNetlistAt, IsNetlistRead, BlamesNetlist, IsTold, RefusesJob, RefusesNetlist, Refuses, IsFront}
+use Rattle.hold_cli.specs.inner.Front.{RefusesText}
 
 -- a text that is no job is refused under its own name
 pub not_a_job : (told : Told) (name bytes copy : List ℕ) (fault : Fault) → Refused (NotBuilt copy) ≡ Refused fault → copy ≡ name → length bytes ≤ file_limit
@@ -85,29 +84,11 @@ netlist_blamed old mid job (Verilog fault) reads blames = record {
 }
 netlist_blamed old mid job (NotBuilt file) reads blames = blames
 
--- of one job that was read, the netlist's text has one reading
-pub one_reading : (old mid : Told) (name : List ℕ) (job : Job) → OnlyReads old mid → IsJobRead old name job
-    → ((text : List ℕ) → HasText mid job.netlist text → HasOneReading text) → HoldsOneReading old name
-one_reading old mid name job reads read one other at text has =
-    let bytes : read.bytes ≡ at.text = read.are at.text at.has.content in
-    let says : IsJobText at.text name job = subst (λ (t : List ℕ). IsJobText t name job) bytes read.says in
-    let same : other ≡ job = IsJobText-unique at.text name other job at.says says in
-    let here : HasText old job.netlist text = subst (λ (j : Job). HasText old j.netlist text) same has in
-    one text (record { content = reads.contents job.netlist text here.content; within = here.within })
-
--- where the job is refused no netlist is read
-pub no_reading : (told : Told) (name : List ℕ) (fault : Fault) → ((text : List ℕ) → told.content name ≡ Some text → RefusesJob told name fault)
-    → HoldsOneReading told name
-no_reading told name fault refuses job at text has = absurd (refused_or_job told name fault job (refuses at.text at.has.content) at)
-
 -- ---- what is said of the bytes of a netlist, said of the file that they were read of
 
 module _ (told : Told) (job : Job) (bytes : List ℕ) (within : length bytes ≤ file_limit) (are : (text : List ℕ) → told.content job.netlist ≡ Some text → bytes ≡ text) where
   has_bytes : (text : List ℕ) → told.content job.netlist ≡ Some text → HasText told job.netlist bytes
   has_bytes text is = record { content = is ∙ ap Some (sym (are text is)); within = within }
-
-  pub bytes_held : (netlist : Design) → Reads bytes netlist → (text : List ℕ) → told.content job.netlist ≡ Some text → IsNetlistAt told job netlist
-  bytes_held netlist reads text is = record { text = bytes; has = has_bytes text is; reads = reads }
 
   pub bytes_blamed : (fault : Fault) → RefusesText job bytes fault → BlamesNetlist told job fault
   bytes_blamed (TooLong file) refuses = absurd refuses
@@ -118,18 +99,3 @@ module _ (told : Told) (job : Job) (bytes : List ℕ) (within : length bytes ≤
   bytes_refused (TooLong file) refuses text is = absurd refuses
   bytes_refused (Verilog fault) refuses text is = record { text = bytes; has = has_bytes text is; first = refuses }
   bytes_refused (NotBuilt file) refuses text is = (record { text = bytes; has = has_bytes text is; is = refuses.0 }, refuses.1)
-
-  pub bytes_one : HasOneReading bytes → (text : List ℕ) → HasText told job.netlist text → HasOneReading text
-  bytes_one one text has = subst (λ (t : List ℕ). HasOneReading t) (are text has.content) one
-
--- a file that is too long
-module _ (told : Told) (job : Job) (fault : Fault) (long : (text : List ℕ) → told.content job.netlist ≡ Some text → file_limit < length text) where
-  pub long_blamed : fault ≡ TooLong job.netlist → BlamesNetlist told job fault
-  long_blamed is = subst (λ (f : Fault). BlamesNetlist told job f) (sym is) refl
-
-  pub long_refused : fault ≡ TooLong job.netlist → (text : List ℕ) → told.content job.netlist ≡ Some text → RefusesNetlist told job fault
-  long_refused is text told_is =
-      subst (λ (f : Fault). RefusesNetlist told job f) (sym is) (record { text = text; content = told_is; beyond = long text told_is }, refl)
-
-  pub long_one : (text : List ℕ) → HasText told job.netlist text → HasOneReading text
-  long_one text has = absurd (omega (arith, long text has.content, has.within))

@@ -1,13 +1,13 @@
 -- A job writes two files, not one.
 use Rattle.std.proofs.Common.{◌≡◌, ◌≢◌, ℕ, List, Bool, true, false, not, ◌&&◌, ◌||◌, refl}
 use Rattle.std.specs.Prelude.{bytes_eq}
-use Rattle.std.proofs.lemmas.Slice.Eq.{bytes_eq-Decides}
-use Rattle.std.proofs.lemmas.Bool.Decides.{not_from_Decides}
+use Rattle.hold_base.proofs.Bools.{cond-Some}
+use Rattle.hold_base.proofs.Bytes.{bytes_eq-apart}
 use Rattle.hold_cli.specs.declared.job_form.Job.{Job}
 use Rattle.hold_cli.specs.JobForm.{keeps_files, job_values, IsJobText}
 use Rattle.hold_cli.specs.JobFormKeys.{kept, has_only, keys_of}
 use Rattle.hold_cli.specs.declared.job_form.key.JobTable.TheVariants.{Job as JobKeys}
-use Rattle.hold_cli.proofs.JobFormKept.{kept_passes, kept_given}
+use Rattle.hold_cli.proofs.JobFormKept.{kept_passes}
 
 -- the files that keeps_files keeps apart
 pub record AreApart (own : List ℕ) (job : Job) : Type 0 where
@@ -32,22 +32,19 @@ all_false false false true d e is = cc
 all_false false true c d e is = cc
 all_false true b c d e is = cc
 
-differ : (a b : List ℕ) → bytes_eq a b ≡ false → a ≢ b
-differ a b is = not_from_Decides (bytes_eq a b) (bytes_eq-Decides a b) is
-
 apart : (own : List ℕ) (job : Job) → keeps_files own job ≡ true → AreApart own job
 apart own job keeps =
     let none = all_false (bytes_eq job.output own) (bytes_eq job.output job.netlist) (bytes_eq job.output job.certificate)
     (bytes_eq job.certificate own) (bytes_eq job.certificate job.netlist) keeps in
     record {
-      output_own = differ job.output own none.first;
-      output_netlist = differ job.output job.netlist none.second;
-      output_certificate = differ job.output job.certificate none.third;
-      certificate_own = differ job.certificate own none.fourth;
-      certificate_netlist = differ job.certificate job.netlist none.fifth;
+      output_own = bytes_eq-apart job.output own none.first;
+      output_netlist = bytes_eq-apart job.output job.netlist none.second;
+      output_certificate = bytes_eq-apart job.output job.certificate none.third;
+      certificate_own = bytes_eq-apart job.certificate own none.fourth;
+      certificate_netlist = bytes_eq-apart job.certificate job.netlist none.fifth;
     }
 
 pub IsJobText-apart : (text own : List ℕ) (job : Job) → IsJobText text own job → AreApart own job
 IsJobText-apart text own job is =
     apart own job (kept_passes (keeps_files own) (job_values is.tree) job
-    (kept_given (has_only (keys_of JobKeys) is.tree) (kept (keeps_files own) (job_values is.tree)) job is.gives))
+    (cond-Some (has_only (keys_of JobKeys) is.tree) (kept (keeps_files own) (job_values is.tree)) job is.gives))

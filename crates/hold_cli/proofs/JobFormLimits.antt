@@ -5,8 +5,10 @@ use Rattle.std.proofs.lemmas.Bool.{and_parts}
 use Rattle.std.proofs.lemmas.List.Elements.{All-from_recursion}
 use Rattle.std.proofs.lemmas.Option.{same_Some}
 use Rattle.std.specs.Int.Signed.{le_z_yes}
+use Rattle.hold_base.proofs.Bools.{cond-Some}
 use Rattle.hold_base.specs.declared.time.Interval.{Interval}
-use Rattle.hold_graph.specs.Problem.{IsSpan, IsWithin, time_limit}
+use Rattle.hold_graph.specs.Problem.{IsSpan, IsWithin}
+use Rattle.hold_base.specs.Limits.{time_limit}
 use Rattle.toml.specs.Data.{Data, Items, no_items, item, Members, get_member, as_array, as_table, as_integer}
 use Rattle.hold_plain.specs.declared.cell.Cell.{Cell}
 use Rattle.hold_plain.specs.declared.cell.CellArc.{CellArc}
@@ -23,7 +25,7 @@ use Rattle.hold_cli.specs.JobFormNames.{name_of, name_at, file_name_at, corner_n
 use Rattle.hold_cli.specs.JobFormTimes.{is_time, time_of, is_in_order, span_between, span_in_pair, span_of, span_at, known_span, span_if_any, time_at, is_period, period_at}
 use Rattle.hold_cli.specs.JobFormCells.{arc_in, arc_of, check_in, check_of, comb_in, register_in, cell_as, is_whole, cell_in, cell_of, are_cells, cells_at}
 use Rattle.hold_cli.specs.JobFormClocks.{clock_in, clock_of, have_different_insts, clocks_at}
-use Rattle.hold_cli.proofs.JobFormKept.{kept_passes, kept_came, kept_given}
+use Rattle.hold_cli.proofs.JobFormKept.{kept_passes, kept_came}
 
 -- what led to a value
 through : {A B : Type 0} {P : Type 0} (o : Option A) (f : A → Option B) (b : B) → (o >>= f) ≡ Some b → ((a : A) → f a ≡ Some b → P) → P
@@ -35,8 +37,8 @@ in_order a b e = le_z_yes (subst T (sym e) tt)
 
 time_within : (z : ℤ) → is_time z ≡ true → IsWithin time_limit z
 time_within z e =
-    let (low, high) = and_parts (int_le (neg_ℤ (pos 10000000000)) z) (int_le z (pos 10000000000)) e in
-    record { low = in_order (neg_ℤ (pos 10000000000)) z low; high = in_order z (pos 10000000000) high }
+    let (low, high) = and_parts (int_le (neg_ℤ (pos time_limit)) z) (int_le z (pos time_limit)) e in
+    record { low = in_order (neg_ℤ (pos time_limit)) z low; high = in_order z (pos time_limit) high }
 
 time_of_within : (d : Data) (z : ℤ) → time_of d ≡ Some z → IsWithin time_limit z
 time_of_within d z e = time_within z (kept_passes is_time (as_integer d) z e)
@@ -133,7 +135,7 @@ arc_limits d arc e =
     through (as_table d) (λ ms. cond (has_only (keys_of ArcTable) ms) (arc_in ms) None) arc e
     (λ ms e1. span_at_span (codes "spans") ms arc.span
     (arc_span_from (name_at (codes "from") ms) (name_at (codes "to") ms) (span_at (codes "spans") ms) arc
-    (kept_given (has_only (keys_of ArcTable) ms) (arc_in ms) arc e1)))
+    (cond-Some (has_only (keys_of ArcTable) ms) (arc_in ms) arc e1)))
 
 record AreCheckTimes (setup hold : Option ℤ) (entry : CellCheck) : Type 0 where
   setup_is : setup ≡ Some entry.check.setup
@@ -156,7 +158,7 @@ check_limits d entry e =
     (λ ms e1.
     let times : AreCheckTimes (time_at (codes "setup") ms) (time_at (codes "hold") ms) entry =
     check_times_from (name_at (codes "pin") ms) (time_at (codes "setup") ms) (time_at (codes "hold") ms) entry
-    (kept_given (has_only (keys_of CheckTable) ms) (check_in ms) entry e1) in
+    (cond-Some (has_only (keys_of CheckTable) ms) (check_in ms) entry e1) in
     record {
       setup = time_at_within (codes "setup") ms entry.check.setup times.setup_is;
       hold = time_at_within (codes "hold") ms entry.check.hold times.hold_is;
@@ -251,7 +253,7 @@ clock_limits d clock e =
     through (as_table d) (λ ms. cond (has_only (keys_of ClockTable) ms) (clock_in ms) None) clock e
     (λ ms e1. span_at_span (codes "arrivals") ms clock.arrival
     (clock_arrival_from (name_at (codes "inst") ms) (span_at (codes "arrivals") ms) clock
-    (kept_given (has_only (keys_of ClockTable) ms) (clock_in ms) clock e1)))
+    (cond-Some (has_only (keys_of ClockTable) ms) (clock_in ms) clock e1)))
 
 record AreTimingParts (period : Option ℤ) (arrival : Option (Option Interval)) (cells : Option (List Cell)) (clocks : Option (List Clock)) (timing : Timing) : Type 0 where
   period_is : period ≡ Some timing.period
@@ -281,11 +283,11 @@ unfolding timing_of
 timing_limits ms timing e =
     let parts : AreTimingParts (period_at ms) (span_if_any (codes "arrival") ms) (cells_at ms) (clocks_at ms) timing =
     timing_from (period_at ms) (span_if_any (codes "arrival") ms) (cells_at ms) (clocks_at ms) timing e in
-    let (low, high) = and_parts (int_le (pos 1) timing.period) (int_le timing.period (pos 10000000000))
+    let (low, high) = and_parts (int_le (pos 1) timing.period) (int_le timing.period (pos time_limit))
     (kept_passes is_period (integer_at (codes "period") ms) timing.period parts.period_is) in
     record {
       period_least = in_order (pos 1) timing.period low;
-      period_greatest = in_order timing.period (pos 10000000000) high;
+      period_greatest = in_order timing.period (pos time_limit) high;
       arrival = span_if_any_span (get_member (codes "arrival") ms) timing.arrival parts.arrival_is;
       cells = each_at_all KeepsCellLimits cell_of cell_limits (codes "type") ms timing.cells
           (kept_came are_cells (each_at cell_of (codes "type") ms) timing.cells parts.cells_are);
@@ -312,4 +314,4 @@ values_limits ms job e =
 pub job_keeps_limits : (ms : Members) (own : List ℕ) (job : Job) → job_of ms own ≡ Some job → KeepsLimits job.timing
 job_keeps_limits ms own job e =
     values_limits ms job
-    (kept_came (keeps_files own) (job_values ms) job (kept_given (has_only (keys_of JobTable) ms) (kept (keeps_files own) (job_values ms)) job e))
+    (kept_came (keeps_files own) (job_values ms) job (cond-Some (has_only (keys_of JobTable) ms) (kept (keeps_files own) (job_values ms)) job e))

@@ -6,10 +6,8 @@ pub mod JobFormSets
 pub mod JobApart
 pub mod JobFormLimits
 pub mod TextsLemmas
-pub mod Readings
 pub mod FrontLemmas
 pub mod FrontSteps
-pub mod PinTexts
 pub mod RepairTexts
 pub mod Answers
 pub mod Deliveries

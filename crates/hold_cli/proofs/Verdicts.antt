@@ -14,14 +14,15 @@ use Rattle.hold_graph.specs.Met.{IsMet, Misses}
 use Rattle.hold_netlist.specs.Design.{Design}
 use Rattle.hold_netlist.specs.CanonicalText.{canonical_text}
 use Rattle.hold_vparse.specs.Reads.{Reads}
-use Rattle.hold_vparse.proofs.CanonicalReads.{canonical_reads}
+use Rattle.hold_vround.proofs.CanonicalReads.{canonical_reads}
 use Rattle.hold_plain.specs.Problem.{problem_of}
 use Rattle.hold_cli.specs.Command.{IsRepair}
 use Rattle.hold_cli.specs.Outcome.{GivesUp}
 use Rattle.hold_cli.specs.Front.{IsJobRead, IsNetlistRead, IsBuilt, Blames, ComesToRead, IsTold, IsFront}
 use Rattle.hold_cli.specs.PaddingLine.{padding_line}
 use Rattle.hold_cli.specs.Texts.{Ready, IsDone, Fails, SaysNothing}
-use Rattle.hold_cli.specs.Answer.{only_line, repair_texts, AreTexts, IsJudged, IsRefused, IsUnread, IsUnwritten, IsAnswer}
+use Rattle.hold_cli.specs.Answer.{only_line, repair_texts, AreTexts}
+use Rattle.hold_cli.specs.inner.Answer.{IsJudged, IsRefused, IsUnread, IsUnwritten, IsAnswer}
 use Rattle.hold_cli.proofs.FrontLemmas.{front_told, refused_or_front, one_front}
 use Rattle.hold_cli.proofs.Answers.{one_repair}
 use Rattle.hold_cli.proofs.TextsLemmas.{SaysNothing-reads}
@@ -36,14 +37,14 @@ met_alone : (old new : Told) (name : List ℕ) (job : Job) (netlist : Design) (o
     → IsMet (problem_of job.timing netlist) no_buffers → (outcome ≡ Repaired 0) ⊎ GivesUp outcome
 met_alone old new name job netlist (Repaired cost) answer front met = inl (ap Repaired answer.verdict.0)
 met_alone old new name job netlist (NeedsPadding path short) answer front met =
-    let same = one_front old name job answer.job netlist answer.netlist answer.one front (answer.front (front_told old name job netlist front)) in
+    let same = one_front old name job answer.job netlist answer.netlist front (answer.front (front_told old name job netlist front)) in
     let misses : Misses (problem_of job.timing answer.netlist) no_buffers path short =
     subst (λ (j : Job). Misses (problem_of j.timing answer.netlist) no_buffers path short) same.0 answer.verdict.0 in
     let here : Misses (problem_of job.timing netlist) no_buffers path short =
     subst (λ (d : Design). Misses (problem_of job.timing d) no_buffers path short) same.1 misses in
     absurd (misses_or_met (problem_of job.timing netlist) no_buffers path short here met)
 met_alone old new name job netlist (Input fault) answer front met =
-    absurd (refused_or_front old name fault job netlist answer.one (answer.refuses (front_told old name job netlist front)) front)
+    absurd (refused_or_front old name fault job netlist (answer.refuses (front_told old name job netlist front)) front)
 met_alone old new name job netlist (ReadFault file) answer front met = inr tt
 met_alone old new name job netlist WriteFault answer front met = inr tt
 met_alone old new name job netlist Memory answer front met = inr tt
@@ -53,12 +54,12 @@ missed_alone : (old new : Told) (name : List ℕ) (job : Job) (netlist : Design)
     → (IsMet (problem_of job.timing netlist) no_buffers → ⊥) → ((path : Listed) × (short : ℤ) × (outcome ≡ NeedsPadding path short)) ⊎ GivesUp outcome
 missed_alone old new name job netlist (NeedsPadding path short) answer front missed = inl (path, short, refl)
 missed_alone old new name job netlist (Repaired cost) answer front missed =
-    let same = one_front old name job answer.job netlist answer.netlist answer.one front (answer.front (front_told old name job netlist front)) in
+    let same = one_front old name job answer.job netlist answer.netlist front (answer.front (front_told old name job netlist front)) in
     let met : IsMet (problem_of job.timing answer.netlist) no_buffers =
     subst (λ (j : Job). IsMet (problem_of j.timing answer.netlist) no_buffers) same.0 answer.verdict.1 in
     absurd (missed (subst (λ (d : Design). IsMet (problem_of job.timing d) no_buffers) same.1 met))
 missed_alone old new name job netlist (Input fault) answer front missed =
-    absurd (refused_or_front old name fault job netlist answer.one (answer.refuses (front_told old name job netlist front)) front)
+    absurd (refused_or_front old name fault job netlist (answer.refuses (front_told old name job netlist front)) front)
 missed_alone old new name job netlist (ReadFault file) answer front missed = inr tt
 missed_alone old new name job netlist WriteFault answer front missed = inr tt
 missed_alone old new name job netlist Memory answer front missed = inr tt

@@ -1,12 +1,9 @@
 -- The order of work over a job, up to the point from which nothing is refused any more.
 --
--- file_limit: how many bytes a job or a netlist may have, 2^26.
 -- IsBuilt job netlist: a valid netlist of the form that is served today: scalar wires, no assignment, and a timing problem by what the job knows of time.
--- HasOneReading text: the text reads as at most one netlist, and has at most one first fault, and not both.
 -- HasText told file text: the content of the file is told, it is this text, and it is within the limit.
 -- IsTooLong told file: the content is told and passes the limit.
 -- IsJobAt told name job: the file `name` holds this job. IsNetlistAt told job netlist: the netlist's file of the job holds a text that reads as this netlist.
--- HoldsOneReading told name: where the netlist of the job in the file `name` is told and within the limit, its text has one reading.
 -- ComesTo told name file: the work on the job in the file `name` reads `file`: that file itself, or the netlist of the job in it.
 -- IsTold told name: the content of each file that the work comes to is told.
 -- IsJobRead told name job: some bytes hold this job, and where the content of the file `name` is told, these bytes are it.
@@ -20,11 +17,11 @@
 -- IsUnbuiltText job text: the text reads as a netlist that isn't served for the job. HasNoNetlist told job: the job's netlist is told and within the
 --   limit, and is such a text.
 -- HasFault told job fault: the job's netlist is told and within the limit, and this is its first fault.
--- RefusesText job text fault: why the text of the job's netlist is refused: it isn't read, for its first fault, or it isn't served.
 -- RefusesJob, RefusesNetlist: why that one file is refused. Refuses told name fault: the first refusal in the order of work: first the job's, then
 --   that of the netlist that the job names.
 -- IsFront told name job netlist: nothing is refused, and these are the job and the netlist.
 use Rattle.std.specs.Prelude.{◌≡◌, ◌⊎◌, ◌<◌, ◌≤◌, ℕ, List, length, Some, IsSome}
+use Rattle.hold_base.specs.Limits.{file_limit}
 use Rattle.hold_files.specs.Told.{Told}
 use Rattle.hold_cli.specs.declared.job_form.Job.{Job}
 use Rattle.hold_cli.specs.declared.outcome.Fault.{Fault}
@@ -36,18 +33,10 @@ use Rattle.hold_plain.specs.Served.{IsScalar, IsServed}
 use Rattle.hold_vparse.specs.declared.fault.VerilogFault.{VerilogFault}
 use Rattle.hold_vparse.specs.Reads.{Reads, IsFirstFault}
 
-abbrev pub file_limit : ℕ
-file_limit = 67108864
-
 pub record IsBuilt (job : Job) (netlist : Design) : Type 0 where
   pub valid : IsValid netlist
   pub scalar : IsScalar netlist
   pub served : IsServed job.timing netlist
-
-pub record HasOneReading (text : List ℕ) : Type 0 where
-  pub netlists : (a b : Design) → Reads text a → Reads text b → a ≡ b
-  pub faults : (a b : VerilogFault) → IsFirstFault text a → IsFirstFault text b → a ≡ b
-  pub apart : (netlist : Design) (fault : VerilogFault) → Reads text netlist → IsFirstFault text fault → ⊥
 
 pub record HasText (told : Told) (file text : List ℕ) : Type 0 where
   pub content : told.content file ≡ Some text
@@ -67,9 +56,6 @@ pub record IsNetlistAt (told : Told) (job : Job) (netlist : Design) : Type 0 whe
   pub text : List ℕ
   pub has : HasText told job.netlist text
   pub reads : Reads text netlist
-
-abbrev pub HoldsOneReading : Told → List ℕ → Type 0
-HoldsOneReading told name = (job : Job) → IsJobAt told name job → (text : List ℕ) → HasText told job.netlist text → HasOneReading text
 
 pub record IsJobRead (told : Told) (name : List ℕ) (job : Job) : Type 0 where
   pub bytes : List ℕ
@@ -135,12 +121,6 @@ abbrev pub RefusesJob : Told → List ℕ → Fault → Type 0
 RefusesJob told name (TooLong file) = IsTooLong told name × (file ≡ name)
 RefusesJob told name (Verilog fault) = ⊥
 RefusesJob told name (NotBuilt file) = HasNoJob told name × (file ≡ name)
-
--- a text that is no netlist, or none that is served for the job
-abbrev pub RefusesText : Job → List ℕ → Fault → Type 0
-RefusesText job text (TooLong file) = ⊥
-RefusesText job text (Verilog fault) = IsFirstFault text fault
-RefusesText job text (NotBuilt file) = IsUnbuiltText job text × (file ≡ job.netlist)
 
 -- the netlist of the job, which is named, is too long, isn't read or isn't served for the job
 abbrev pub RefusesNetlist : Told → Job → Fault → Type 0

@@ -18,6 +18,7 @@
 -- are_cells cells: at most 4,096, with different names. cells_at: the cell types of a job, where they are so.
 use Rattle.std.specs.Prelude.{ℕ, List, [], ◌∷◌, ◌++◌, map, length, codes, Bool, ◌&&◌, nat_le, bytes_eq, if◌then◌else◌, Option, Some, None}
 use Rattle.std.specs.List.{list_all}
+use Rattle.hold_base.specs.Limits.{types_limit}
 use Rattle.toml.specs.Data.{Data, Members, as_table}
 use Rattle.hold_netlist.specs.Names.{is_among}
 use Rattle.hold_plain.specs.declared.cell.Cell.{Cell}
@@ -110,7 +111,7 @@ abbrev pub cell_of : Data → Option Cell
 cell_of d = as_table d >>= cell_in
 
 abbrev pub are_cells : List Cell → Bool
-are_cells cells = nat_le (length cells) 4096 && names_differ (map (λ cell. cell.name) cells)
+are_cells cells = nat_le (length cells) types_limit && names_differ (map (λ cell. cell.name) cells)
 
 abbrev pub cells_at : Members → Option (List Cell)
 cells_at ms = kept are_cells (each_at cell_of (codes "type") ms)

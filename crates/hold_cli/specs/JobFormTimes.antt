@@ -11,12 +11,13 @@
 -- is_period z: whether it is from 1 to 10^10.
 -- period_at: the whole number at `period`, where it is from 1 to 10^10.
 use Rattle.std.specs.Prelude.{ℕ, ℤ, pos, neg_ℤ, int_le, List, codes, Bool, ◌&&◌, Option, Some, None, option_map}
+use Rattle.hold_base.specs.Limits.{time_limit}
 use Rattle.hold_base.specs.declared.time.Interval.{Interval}
 use Rattle.toml.specs.Data.{Data, Items, no_items, item, Members, get_member, as_integer, as_array}
 use Rattle.hold_cli.specs.JobFormKeys.{◌>>=◌, kept, integer_at, array_at, only_item}
 
 abbrev pub is_time : ℤ → Bool
-is_time z = int_le (neg_ℤ (pos 10000000000)) z && int_le z (pos 10000000000)
+is_time z = int_le (neg_ℤ (pos time_limit)) z && int_le z (pos time_limit)
 
 abbrev pub time_of : Data → Option ℤ
 time_of d = kept is_time (as_integer d)
@@ -59,7 +60,7 @@ time_at key ms = do
   time_of only
 
 abbrev pub is_period : ℤ → Bool
-is_period z = int_le (pos 1) z && int_le z (pos 10000000000)
+is_period z = int_le (pos 1) z && int_le z (pos time_limit)
 
 abbrev pub period_at : Members → Option ℤ
 period_at ms = kept is_period (integer_at (codes "period") ms)

@@ -11,3 +11,4 @@ pub mod PaddingLine
 pub mod RefusalLine
 pub mod Texts
 pub mod Answer
+pub mod inner

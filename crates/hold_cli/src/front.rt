@@ -1,25 +1,25 @@
-ghost use Rattle.std.specs.Prelude.{◌≡◌, ◌⊎◌, ℕ, List, Some, IfOk, IfSome, IfNone, OnOk, IsErrOf};
+ghost use Rattle.std.specs.Prelude.{◌≡◌, ◌⊎◌, ℕ, List, Some, IfOk, IfSome, IfNone, IsErrOf};
 ghost use Rattle.hold_files.specs.Told.{Rose, OnlyReads};
 ghost use Rattle.hold_cli.specs.declared.outcome.Fault.{Fault as Refusal};
 ghost use Rattle.hold_cli.specs.declared.job_form.Job.{Job as JobData};
 ghost use Rattle.hold_cli.specs.JobForm.{IsJobText};
-ghost use Rattle.hold_graph.specs.Graph.{EndsOnce};
 ghost use Rattle.hold_graph.specs.Problem.{IsValid};
 ghost use Rattle.hold_plain.specs.Limits.{KeepsLimits};
 ghost use Rattle.hold_plain.specs.Problem.{problem_of};
-ghost use Rattle.hold_cli.specs.Front.{IsBuilt, HasOneReading, HasText, IsJobAt, IsNetlistAt, HoldsOneReading, IsJobRead, IsNetlistRead, BlamesNetlist, BlamesJob, Blames, ComesTo, ComesToRead, IsTold, RefusesText, RefusesJob, RefusesNetlist, Refuses, IsFront};
+ghost use Rattle.hold_cli.specs.Front.{IsBuilt, IsJobAt, IsNetlistAt, IsJobRead, IsNetlistRead, BlamesNetlist, BlamesJob, Blames, ComesTo, ComesToRead, IsTold, RefusesJob, RefusesNetlist, Refuses, IsFront};
+ghost use Rattle.hold_cli.specs.inner.Front.{RefusesText};
 ghost use Rattle.hold_vparse.specs.Reads.{Reads};
 
 use crate::input::{Stopped, read_input};
 use crate::job_form::{self, Job};
 use crate::outcome::Fault;
-use crate::parsed::parse;
 use crate::scalar::is_scalar;
 use hold_base::{Memory, Name, Stop};
 use hold_files::Files;
 use hold_graph::Problem;
 use hold_netlist::Netlist;
 use hold_plain::problem;
+use hold_vparse::read;
 use std::alloc::Global;
 
 /// A netlist that is served for its job.
@@ -44,7 +44,6 @@ pub fn read_front<F: Files>(alloc: Global, files: &mut F, name: &Name) -> Result
     ensures built { IfOk result (λ front. IsBuilt front.job front.built.netlist) }
     ensures problem { IfOk result (λ front. front.built.problem ≡ problem_of front.job.timing front.built.netlist) }
     ensures valid { IfOk result (λ front. IsValid front.built.problem) }
-    ensures once { IfOk result (λ front. EndsOnce front.built.problem.graph.arcs) }
     ensures found { IfOk result (λ front. IsTold (F.told files.old) name.now
         → IsFront (F.told files.old) name.now front.job front.built.netlist) }
     ensures refused { (fault : Refusal) → IsErrOf result (Stopped.Refused fault)
@@ -56,9 +55,6 @@ pub fn read_front<F: Files>(alloc: Global, files: &mut F, name: &Name) -> Result
         × BlamesNetlist (F.told files.old) job fault) }
     ensures blamed { (fault : Refusal) → IsErrOf result (Stopped.Refused fault)
         → Blames (F.told files.old) name.now fault }
-    ensures one { OnOk result (HoldsOneReading (F.told files.old) name.now) }
-    ensures one_refused { (fault : Refusal) → IsErrOf result (Stopped.Refused fault)
-        → HoldsOneReading (F.told files.old) name.now }
     ensures read { (file : List ℕ) → IsErrOf result (Stopped.Read file)
         → Rose ((F.told files.old).read_faults file) ((F.told files.new).read_faults file) }
     ensures named { (file : List ℕ) → IsErrOf result (Stopped.Read file)
@@ -107,7 +103,6 @@ fn read_netlist<F: Files>(alloc: Global, files: &mut F, job: &Job) -> Result<Bui
     ensures built { IfOk result (λ built. IsBuilt job.now built.netlist) }
     ensures problem { IfOk result (λ built. built.problem ≡ problem_of job.now.timing built.netlist) }
     ensures valid { IfOk result (λ built. IsValid built.problem) }
-    ensures once { IfOk result (λ built. EndsOnce built.problem.graph.arcs) }
     ensures found { IfOk result (λ built. (text : List ℕ)
         → (F.told files.old).content job.now.netlist ≡ Some text
         → IsNetlistAt (F.told files.old) job.now built.netlist) }
@@ -116,9 +111,6 @@ fn read_netlist<F: Files>(alloc: Global, files: &mut F, job: &Job) -> Result<Bui
     ensures refused { (fault : Refusal) → IsErrOf result (Stopped.Refused fault) → (text : List ℕ)
         → (F.told files.old).content job.now.netlist ≡ Some text
         → RefusesNetlist (F.told files.old) job.now fault }
-    ensures one { OnOk result ((text : List ℕ) → HasText (F.told files.old) job.now.netlist text → HasOneReading text) }
-    ensures one_refused { (fault : Refusal) → IsErrOf result (Stopped.Refused fault) → (text : List ℕ)
-        → HasText (F.told files.old) job.now.netlist text → HasOneReading text }
     ensures read { (file : List ℕ) → IsErrOf result (Stopped.Read file) → file ≡ job.now.netlist }
     ensures cause { (file : List ℕ) → IsErrOf result (Stopped.Read file)
         → Rose ((F.told files.old).read_faults job.now.netlist) ((F.told files.new).read_faults job.now.netlist) }
@@ -139,14 +131,11 @@ fn build(alloc: Global, job: &Job, text: &[u8]) -> Result<Built, Stopped>
     ensures built { IfOk result (λ built. IsBuilt job.now built.netlist) }
     ensures problem { IfOk result (λ built. built.problem ≡ problem_of job.now.timing built.netlist) }
     ensures valid { IfOk result (λ built. IsValid built.problem) }
-    ensures once { IfOk result (λ built. EndsOnce built.problem.graph.arcs) }
     ensures refused { (fault : Refusal) → IsErrOf result (Stopped.Refused fault)
         → RefusesText job.now text.now fault }
-    ensures one { OnOk result (HasOneReading text.now) }
-    ensures one_refused { (fault : Refusal) → IsErrOf result (Stopped.Refused fault) → HasOneReading text.now }
     ensures unread { (file : List ℕ) → IsErrOf result (Stopped.Read file) → ⊥ }
 {
-    let netlist = match parse(alloc, text) {
+    let netlist = match read(alloc, text) {
         Ok(netlist) => netlist,
         Err(Stop::Memory) => return Err(Stopped::Memory),
         Err(Stop::Fault(fault)) => return Err(Stopped::Refused(Fault::Verilog(fault))),
@@ -167,7 +156,6 @@ fn plain_problem(alloc: Global, job: &Job, netlist: &Netlist) -> Result<Option<P
     ensures built { IfOk result (λ found. IfSome found (λ problem. IsBuilt job.now netlist.now)) }
     ensures is { IfOk result (λ found. IfSome found (λ problem. problem ≡ problem_of job.now.timing netlist.now)) }
     ensures valid { IfOk result (λ found. IfSome found (λ problem. IsValid problem)) }
-    ensures once { IfOk result (λ found. IfSome found (λ problem. EndsOnce problem.graph.arcs)) }
     ensures none { IfOk result (λ found. IfNone found (IsBuilt job.now netlist.now → ⊥)) }
 {
     netlist.know_valid();

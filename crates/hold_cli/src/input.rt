@@ -1,15 +1,12 @@
 ghost use Rattle.std.specs.Prelude.{◌≡◌, ◌<◌, ◌≤◌, ℕ, List, length, Some, vec_len, IfOk, IsErrOf};
 ghost use Rattle.hold_files.specs.Told.{Rose, OnlyReads};
 ghost use Rattle.hold_cli.specs.declared.outcome.Fault.{Fault as Refusal};
-ghost use Rattle.hold_cli.specs.Front.{file_limit};
+ghost use Rattle.hold_base.specs.Limits.{file_limit};
 
 use crate::outcome::Fault;
-use hold_base::{Memory, Name};
+use hold_base::{Memory, Name, limits};
 use hold_files::{Files, ReadError, read_whole};
 use std::alloc::{AllocError, Global};
-
-/// How many bytes a job or a netlist may have.
-pub const FILE_LIMIT: u64 = 67108864;
 
 /// Why the work on a job stops before anything is written.
 #[derive(Debug, Drop)]
@@ -56,7 +53,7 @@ pub fn read_input<F: Files>(alloc: Global, files: &mut F, name: &Name) -> Result
         → (F.told files.old).content name.now ≡ Some text → file_limit < length text }
     ensures stays { OnlyReads (F.told files.old) (F.told files.new) }
 {
-    match read_whole(alloc, files, name, FILE_LIMIT) {
+    match read_whole(alloc, files, name, limits::FILE_BYTES) {
         Ok(text) => Ok(text),
         Err(ReadError::Fault) => Err(Stopped::Read(name.clone()?)),
         Err(ReadError::TooLong) => Err(Stopped::Refused(Fault::TooLong(name.clone()?))),

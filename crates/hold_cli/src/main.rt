@@ -9,7 +9,6 @@ mod input;
 mod job_form;
 mod outcome;
 mod padding;
-mod parsed;
 mod refusal;
 mod scalar;
 mod top;

@@ -9,7 +9,6 @@ ghost use Rattle.hold_netlist.specs.Design.{Design};
 ghost use Rattle.hold_netlist.specs.CanonicalText.{canonical_text};
 ghost use Rattle.hold_cli.specs.declared.job_form.Job.{Job as JobData};
 ghost use Rattle.hold_graph.specs.declared.problem.Listed.{Listed as Path};
-ghost use Rattle.hold_graph.specs.Graph.{EndsOnce};
 ghost use Rattle.hold_graph.specs.Problem.{IsValid};
 ghost use Rattle.hold_graph.specs.Sums.{no_buffers};
 ghost use Rattle.hold_graph.specs.Met.{IsMet, Misses};
@@ -17,7 +16,8 @@ ghost use Rattle.hold_plain.specs.Problem.{problem_of};
 ghost use Rattle.hold_vparse.specs.Reads.{Reads};
 ghost use Rattle.hold_cli.specs.PaddingLine.{padding_line};
 ghost use Rattle.hold_cli.specs.RefusalLine.{refusal_line};
-ghost use Rattle.hold_cli.specs.Answer.{usage_line, only_line, repair_texts, AreTexts, Comes, IsCalm, IsAnswer, IsRefusal, IsDelivery};
+ghost use Rattle.hold_cli.specs.Answer.{usage_line, only_line, repair_texts, AreTexts, Comes, IsCalm};
+ghost use Rattle.hold_cli.specs.inner.Answer.{IsAnswer, IsRefusal, IsDelivery};
 ghost use Rattle.hold_cli.specs.Texts.{Ready, IsDone, Fails, FailsInLine, SaysNothing};
 
 use crate::answer::{USAGE, say_line, write_repair};
@@ -177,7 +177,6 @@ fn deliver<F: Files>(alloc: Global, files: &mut F, front: &Front) -> Outcome
     requires apart { front.now.job.certificate ≢ front.now.job.output }
     requires problem { front.now.built.problem ≡ problem_of front.now.job.timing front.now.built.netlist }
     requires valid { IsValid front.now.built.problem }
-    requires once { EndsOnce front.now.built.problem.graph.arcs }
     ensures answer { IsDelivery (F.told files.old) (F.told files.new) front.now.job front.now.built.netlist result }
     ensures goes_on { GoesOn (F.told files.old) (F.told files.new) }
 {

@@ -9,13 +9,10 @@ use crate::job_form::key::JobTable;
 use crate::job_form::names::name_at;
 use crate::job_form::value::text_at;
 use crate::job_form::whole::is_whole;
-use hold_base::{List, Memory, Name};
+use hold_base::{List, Memory, Name, limits};
 use hold_plain::{Cell, Role};
 use std::alloc::Global;
 use toml::{Table, Value};
-
-/// The most cell types that a job may list.
-const CELL_LIMIT: usize = 4096;
 
 impl FromValue for Cell {
     ghost given_by = { cell_of };
@@ -142,7 +139,7 @@ fn register_in(alloc: Global, table: &Table) -> Result<Option<Cell>, Memory>
 fn are_cells(alloc: Global, cells: &[Cell]) -> Result<bool, Memory>
     ensures { IfOk result (λ are. are ≡ are_cells cells.now) }
 {
-    if cells.len() <= CELL_LIMIT {
+    if cells.len() <= limits::TYPES {
         differ::<Cell>(alloc, cells)
     } else {
         Ok(false)

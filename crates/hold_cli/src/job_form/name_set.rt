@@ -16,7 +16,7 @@ pub struct NameSet {
 
 impl Model for NameSet {
     ghost use Rattle.std.specs.Prelude.{List, ℕ};
-    ghost use Rattle.hold_netlist.specs.NameTable.{names_of};
+    ghost use Rattle.hold_netlist.specs.inner.NameTable.{names_of};
 
     ghost Value = { List (List ℕ) };
 

@@ -1,48 +1,43 @@
 //! Names in a job: of files, of the corner, and of cell types, instances and pins.
 ghost use Rattle.std.specs.Prelude.{◌≡◌, IfOk, option_copied};
 ghost use Rattle.std.specs.List.{list_all};
+ghost use Rattle.hold_base.specs.NameBytes.{is_printed};
 ghost use Rattle.toml.specs.View.{view, table_view};
-ghost use Rattle.hold_cli.specs.JobFormNames.{file_name_at, is_file_name, is_visible, is_name, name_of, name_at, corner_name_at, corner_name_of, is_corner_name};
+ghost use Rattle.hold_cli.specs.JobFormNames.{file_name_at, is_file_name, is_name, name_of, name_at, corner_name_at, corner_name_of, is_corner_name};
 
 use crate::job_form::each::FromValue;
 use crate::job_form::key::JobTable;
 use crate::job_form::value::{array_at, only_item, text_at};
-use hold_base::{Memory, Name};
+use hold_base::{Memory, Name, is_printed, limits};
 use std::alloc::Global;
 use toml::{Table, Value};
-
-/// The longest name of anything but a corner, in bytes.
-const NAME_LIMIT: usize = 4096;
-
-/// The longest name of a corner, in bytes.
-const CORNER_NAME_LIMIT: usize = 64;
 
 /// Whether a file may have the name.
 fn is_file_name(name: &[u8]) -> bool
     ensures { result ≡ is_file_name name.now }
 {
-    !name.is_empty() && name.len() <= NAME_LIMIT
+    !name.is_empty() && name.len() <= limits::NAME_BYTES
 }
 
 /// Whether each byte prints and is no space.
-fn is_visible(text: &[u8]) -> bool
-    ensures { result ≡ list_all is_visible text.now }
+fn are_printed(text: &[u8]) -> bool
+    ensures { result ≡ list_all is_printed text.now }
 {
-    text.iter().all(|byte| 33 <= *byte && *byte <= 126)
+    text.iter().all(|byte| is_printed(*byte))
 }
 
 /// Whether a cell type, an instance or a pin may have the name.
 fn is_name(name: &[u8]) -> bool
     ensures { result ≡ is_name name.now }
 {
-    is_file_name(name) && is_visible(name)
+    is_file_name(name) && are_printed(name)
 }
 
 /// Whether a corner may have the name.
 fn is_corner_name(name: &[u8]) -> bool
     ensures { result ≡ is_corner_name name.now }
 {
-    !name.is_empty() && name.len() <= CORNER_NAME_LIMIT && is_visible(name)
+    !name.is_empty() && name.len() <= limits::CORNER_NAME_BYTES && are_printed(name)
 }
 
 /// The name of a file at a key, if the key holds one.

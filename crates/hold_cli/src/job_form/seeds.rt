@@ -1,7 +1,8 @@
 //! The seeds of sets of names, each of the names that its set is made of.
 ghost use Rattle.std.specs.Prelude.{◌≡◌, map};
 ghost use Rattle.std.specs.Hash.DefaultHasher as sip;
-ghost use Rattle.hold_netlist.specs.Seed.{start_of, with_texts};
+ghost use Rattle.hold_netlist.specs.Seed.{start_of};
+ghost use Rattle.hold_netlist.specs.inner.Seed.{with_texts};
 
 use crate::job_form::doubles::Named;
 use hold_netlist::Seed;

@@ -4,19 +4,16 @@ ghost use Rattle.toml.specs.View.{view, table_view, array_view};
 ghost use Rattle.hold_cli.specs.JobFormTimes.{is_time, time_of, is_in_order, span_between, span_in_pair, span_of, span_at, span_if_any, time_at, period_at};
 
 use crate::job_form::value::{array_at, integer_at, only_item, value_at};
-use hold_base::Interval;
+use hold_base::{Interval, limits};
 use toml::value::Array;
 use toml::{Table, Value};
-
-/// The greatest magnitude of a time, and the longest period, in fs.
-const TIME_LIMIT: i64 = 10_000_000_000;
 
 /// The time that a value is, if it is a whole number in its range.
 fn time_of(value: &Value) -> Option<i64>
     ensures { result ≡ time_of (view value.now) }
 {
     match value.as_integer() {
-        Some(time) if -TIME_LIMIT <= time && time <= TIME_LIMIT => Some(time),
+        Some(time) if -limits::TIME <= time && time <= limits::TIME => Some(time),
         _ => None,
     }
 }
@@ -109,7 +106,7 @@ pub fn period_at(table: &Table) -> Option<i64>
     ensures { result ≡ period_at (table_view table.now) }
 {
     match integer_at(table, "period") {
-        Some(period) if 1 <= period && period <= TIME_LIMIT => Some(period),
+        Some(period) if 1 <= period && period <= limits::TIME => Some(period),
         _ => None,
     }
 }

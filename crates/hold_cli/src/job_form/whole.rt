@@ -4,7 +4,8 @@ ghost use Rattle.std.specs.Hash.DefaultHasher as sip;
 ghost use Rattle.std.specs.List.{list_all};
 ghost use Rattle.hold_netlist.specs.Doubles.{first_repeat};
 ghost use Rattle.hold_netlist.specs.Names.{is_among};
-ghost use Rattle.hold_netlist.specs.Seed.{start_of, with_texts};
+ghost use Rattle.hold_netlist.specs.Seed.{start_of};
+ghost use Rattle.hold_netlist.specs.inner.Seed.{with_texts};
 ghost use Rattle.hold_cli.specs.JobFormNames.{names_differ};
 ghost use Rattle.hold_cli.specs.JobFormCells.{clock_pins, sources_of, pins_of, pair_name, leads_between, is_whole};
 

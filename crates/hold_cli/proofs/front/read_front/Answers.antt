@@ -1,7 +1,7 @@
-use Rattle.std.proofs.Common.{◌≡◌, Err, inr, rules, ap}
+use Rattle.std.proofs.Common.{◌≡◌, Err, inr, ap}
 use Rattle.hold_cli.specs.declared.input.Stopped.TheVariants.{Refused, Read}
 use Rattle.hold_files.proofs.ToldLemmas.{OnlyReads-trans}
-use Rattle.hold_cli.proofs.FrontSteps.{netlist_refused, netlist_found, netlist_read, netlist_blamed, one_reading, no_reading}
+use Rattle.hold_cli.proofs.FrontSteps.{netlist_refused, netlist_found, netlist_read, netlist_blamed}
 use Rattle.hold_cli.proofs.front.read_front.Goals as goal
 
 pub returns-in-Ok-clause-found : goal.returns-in-Ok-clause-found
@@ -35,26 +35,10 @@ returns-in-Err-clause-first g c = λ fault text is told.
           (c.in-Err.ensures.blamed fault (ap Err same)),
     )
 
-pub returns-in-Err-clause-one_refused : goal.returns-in-Err-clause-one_refused
-returns-in-Err-clause-one_refused g c = λ fault is.
-    let same : c.in-Err.stopped ≡ Refused fault = cc in
-    one_reading (g.F.Files.told c.args.files.now) (g.F.Files.told c.read_job.new.files) c.args.name.now c.in_ok-job.job
-    c.read_job.ensures.stays c.in_ok-job.ensures.job (c.in-Err.ensures.one_refused fault (ap Err same))
-
 pub returns-in-Ok-clause-netlist : goal.returns-in-Ok-clause-netlist
 returns-in-Ok-clause-netlist g c =
     netlist_read (g.F.Files.told c.args.files.now) (g.F.Files.told c.read_job.new.files) c.in_ok-job.job c.in-Ok.built.netlist
     c.read_job.ensures.stays c.in-Ok.ensures.netlist
-
-pub returns-in-Ok-clause-one : goal.returns-in-Ok-clause-one
-returns-in-Ok-clause-one g c =
-    one_reading (g.F.Files.told c.args.files.now) (g.F.Files.told c.read_job.new.files) c.args.name.now c.in_ok-job.job
-    c.read_job.ensures.stays c.in_ok-job.ensures.job c.in-Ok.ensures.one
-
-pub returns-in_err-job-clause-one_refused : goal.returns-in_err-job-clause-one_refused
-returns-in_err-job-clause-one_refused g c = λ fault is.
-    let same : c.in_err-job.field-0.0 ≡ Refused fault = search (rules, is, c.from_residual.ensures) in
-    no_reading (g.F.Files.told c.args.files.now) c.args.name.now fault (c.in_err-job.ensures.refused fault (ap Err same))
 
 pub returns-in-Err-clause-named : goal.returns-in-Err-clause-named
 returns-in-Err-clause-named g c = λ file is.

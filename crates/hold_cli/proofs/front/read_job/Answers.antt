@@ -2,7 +2,7 @@ use Rattle.std.proofs.Common.{◌≡◌, ◌≤◌, ℕ, List, length, rules, Ok
 use Rattle.hold_cli.specs.declared.job_form.Job.{Job as JobData}
 use Rattle.hold_cli.specs.declared.input.Stopped.TheVariants.{Refused}
 use Rattle.hold_cli.specs.declared.outcome.Fault.TheVariants.{NotBuilt}
-use Rattle.hold_cli.specs.Front.{file_limit}
+use Rattle.hold_base.specs.Limits.{file_limit}
 use Rattle.hold_cli.specs.JobForm.{IsJobText}
 use Rattle.hold_cli.proofs.FrontSteps.{not_a_job}
 use Rattle.hold_cli.proofs.front.read_job.Goals as goal

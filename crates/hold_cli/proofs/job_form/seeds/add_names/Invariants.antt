@@ -1,5 +1,6 @@
 use Rattle.std.proofs.Common.{◌≡◌, map, drop}
-use Rattle.hold_netlist.specs.Seed.{start_of, with_texts}
+use Rattle.hold_netlist.specs.Seed.{start_of}
+use Rattle.hold_netlist.specs.inner.Seed.{with_texts}
 use Rattle.hold_cli.proofs.job_form.seeds.add_names.Given as goal
 
 -- what is left makes the seed of all
