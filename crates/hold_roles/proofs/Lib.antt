@@ -1,0 +1,10 @@
+pub mod AnswerLemmas
+pub mod NamePlaceLemmas
+pub mod WalkLemmas
+pub mod SlotLemmas
+pub mod CellLemmas
+pub mod MarkLemmas
+pub mod BindLemmas
+pub mod FaultLemmas
+pub mod BoundLemmas
+pub mod Examples

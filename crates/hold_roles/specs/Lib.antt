@@ -1,0 +1,9 @@
+pub mod Types
+pub mod TypePins
+pub mod Drivers
+pub mod Roots
+pub mod Faults
+pub mod Binding
+pub mod Solutions
+pub mod Meaning
+pub mod inner

@@ -1,0 +1,4 @@
+pub mod NamePlaces
+pub mod Cells
+pub mod Slots
+pub mod Marks
