@@ -1,0 +1,8 @@
+pub mod Tree
+pub mod Boxes
+pub mod Values
+pub mod InForce
+pub mod Closing
+pub mod Proving
+pub mod Least
+pub mod inner
