@@ -83,7 +83,9 @@ fn double(made: Result<Library, Stop<LibraryFault>>) -> Option<u32> {
 fn a_type_is_found_by_its_whole_name(rt: HostRuntime) -> Result<(), Stop<LibraryFault>> {
     let library = small(rt.alloc())?;
     assert_eq!(rt; library.types().len(), 5);
-    assert!(rt; matches!(library.find(b"DFF"), Some(cell) if cell.name.bytes() == b"DFF".as_slice()));
+    assert!(rt;
+        matches!(library.find(b"DFF"), Some(cell) if cell.name.bytes() == b"DFF".as_slice())
+    );
     assert!(rt; matches!(library.find(b"INV"), Some(cell) if cell.role == Role::Comb));
     assert!(rt; library.find(b"IN").is_none());
     assert!(rt; library.find(b"inv").is_none());
@@ -97,6 +99,9 @@ fn the_later_of_two_types_of_one_name_is_named(rt: HostRuntime) {
     assert!(rt; make(alloc, &[]).is_ok());
     assert!(rt; make(alloc, &[b"A", b"B", b"AB"]).is_ok());
     assert_eq!(rt; double(make(alloc, &[b"DFF", b"INV", b"INV"])), Some(2));
-    assert_eq!(rt; double(make(alloc, &[b"A", b"B", b"C", b"B", b"A"])), Some(3));
+    assert_eq!(rt;
+        double(make(alloc, &[b"A", b"B", b"C", b"B", b"A"])),
+        Some(3)
+    );
     assert_eq!(rt; double(make(alloc, &[b"", b""])), Some(1));
 }
