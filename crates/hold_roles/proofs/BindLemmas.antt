@@ -1,5 +1,5 @@
 -- What a netlist is refused for, or that nothing of it is at fault, from what its slots and marks tell.
-use Rattle.std.proofs.Common.{◌≡◌, ℕ, ◌<◌, List, [], ◌∷◌, length, map, Bool, true, false, cond, Option, Some, None, refl, sym, ap, ◌∙◌, subst, ◌⊎◌, inl, inr}
+use Rattle.std.proofs.Common.{◌≡◌, ℕ, List, [], ◌∷◌, length, map, Bool, true, false, cond, Option, Some, None, sym, ap, ◌∙◌, subst}
 use Rattle.std.specs.Prelude.{Ok, Err, slice_get}
 use Rattle.hold_base.specs.Answers.{unless}
 use Rattle.std.specs.Option.{option_map, option_or}
@@ -18,8 +18,7 @@ use Rattle.hold_roles.specs.declared.marks.Mark.{Mark}
 use Rattle.hold_roles.specs.declared.marks.Mark.TheVariants.{Ring}
 use Rattle.hold_roles.specs.declared.roots.Root.{Root}
 use Rattle.hold_roles.specs.Types.{type_named}
-use Rattle.hold_roles.specs.Drivers.{drivers, IsDoubleDriven}
-use Rattle.hold_roles.specs.Roots.{IsRing}
+use Rattle.hold_roles.specs.Drivers.{drivers}
 use Rattle.hold_roles.specs.Faults.{bad_in, first_bad_in, first_bad_pin, first_unknown, is_bad_pin, passed_limit, plain_fault, HasNone, IsFirst, IsFirstDouble, IsFirstFault, IsFirstRing, IsSound}
 use Rattle.hold_roles.specs.inner.Marks.{drivers_in, root_in, AreDone, AreLinks, AreMarked, AreRoots, IsAt}
 use Rattle.hold_roles.specs.inner.Slots.{HoldsDrivers}

@@ -1,5 +1,5 @@
 -- The roots that a bound netlist keeps.
-use Rattle.std.proofs.Common.{◌≡◌, ℕ, ◌<◌, List, length, get_or, ap, ◌∙◌, sym, subst, arith}
+use Rattle.std.proofs.Common.{◌≡◌, ℕ, ◌<◌, List, get_or, ap, ◌∙◌, sym, subst, arith}
 use Rattle.std.proofs.lemmas.Option.{slice_get-get_or}
 use Rattle.hold_netlist.specs.Bits.{bits_of}
 use Rattle.hold_netlist.specs.Design.{Design}

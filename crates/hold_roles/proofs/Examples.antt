@@ -1,21 +1,18 @@
 -- Small netlists and what their values must be: that a solution is what it was meant to be.
-use Rattle.std.proofs.Common.{◌≡◌, ℕ, List, [], ◌∷◌, length, map, Bool, true, false, not, Option, Some, None, refl, sym, ap, ◌∙◌, subst, arith, codes}
-use Rattle.std.specs.Prelude.{take}
+use Rattle.std.proofs.Common.{◌≡◌, ℕ, List, [], ◌∷◌, Bool, true, false, not, Some, None, refl, sym, ap, ◌∙◌, subst, arith, codes}
 use Rattle.std.proofs.lemmas.List.{take_all}
-use Rattle.hold_netlist.specs.declared.inst.Source.{Source}
-use Rattle.hold_netlist.specs.declared.inst.Source.TheVariants.{Net, Zero, One, Empty}
+use Rattle.hold_netlist.specs.declared.inst.Source.TheVariants.{Net, One, Empty}
 use Rattle.hold_netlist.specs.declared.inst.Pin.{Pin}
 use Rattle.hold_netlist.specs.declared.inst.Inst.{Inst}
-use Rattle.hold_netlist.specs.declared.inst.Assign.{Assign}
 use Rattle.hold_netlist.specs.declared.kind.Kind.{Kind}
 use Rattle.hold_netlist.specs.declared.wire.Wire.{Wire}
 use Rattle.hold_netlist.specs.Bits.{bits_of}
 use Rattle.hold_netlist.specs.Design.{Design, design}
 use Rattle.hold_roles.specs.declared.role.CellType.{CellType}
-use Rattle.hold_roles.specs.declared.role.Role.TheVariants.{Comb, Register, Opaque}
+use Rattle.hold_roles.specs.declared.role.Role.TheVariants.{Comb, Register}
 use Rattle.hold_roles.specs.declared.row.Row.{Row}
 use Rattle.hold_roles.specs.Solutions.{bit_at, source_value, IsSolution}
-use Rattle.hold_roles.specs.Meaning.{kept, IsFair, IsOnlyExtension, Same}
+use Rattle.hold_roles.specs.Meaning.{kept, Same}
 
 -- ---- parts
 

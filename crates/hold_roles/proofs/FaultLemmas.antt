@@ -1,5 +1,5 @@
 -- A netlist has one first fault at most, and none where nothing of it is at fault.
-use Rattle.std.proofs.Common.{◌≡◌, ℕ, ◌≤◌, ◌<◌, List, length, Option, Some, None, refl, sym, ap, ◌∙◌, subst, arith, ◌⊎◌, inl, inr}
+use Rattle.std.proofs.Common.{◌≡◌, ℕ, ◌≤◌, List, length, Some, None, refl, sym, ap, ◌∙◌, arith, ◌⊎◌, inl, inr}
 use Rattle.std.specs.Prelude.{Result, Ok, Err, OnOk, IfOk}
 use Rattle.hold_base.specs.declared.stop.Stop.{Stop}
 use Rattle.hold_base.specs.declared.stop.Stop.TheVariants.{Memory, Fault}
@@ -10,10 +10,9 @@ use Rattle.hold_netlist.specs.PinText.{bit_name}
 use Rattle.hold_roles.specs.declared.role.CellType.{CellType}
 use Rattle.hold_roles.specs.declared.fault.RoleFault.{RoleFault}
 use Rattle.hold_roles.specs.declared.fault.RoleFault.TheVariants.{Limit, NoRole, BadPin, DoubleDriver, AssignRing}
-use Rattle.hold_roles.specs.declared.drivers.Driver.{Driver}
 use Rattle.hold_roles.specs.Drivers.{drivers, IsDoubleDriven}
 use Rattle.hold_roles.specs.Roots.{IsRing}
-use Rattle.hold_roles.specs.Faults.{plain_fault, HasNone, IsFirst, IsFirstDouble, IsFirstFault, IsFirstRing, IsSound}
+use Rattle.hold_roles.specs.Faults.{plain_fault, IsFirst, IsFirstDouble, IsFirstFault, IsFirstRing, IsSound}
 
 first-one : (P : ℕ → Type 0) (m n : ℕ) → IsFirst P m → IsFirst P n → m ≡ n
 first-one P m n h k =

@@ -19,8 +19,8 @@ use Rattle.hold_roles.specs.declared.marks.Mark.TheVariants.{New, Open, Ends, Lo
 use Rattle.hold_roles.specs.declared.roots.Root.{Root}
 use Rattle.hold_roles.specs.declared.roots.Root.TheVariants.{Pin, Zero, One, Nothing}
 use Rattle.hold_roles.specs.Faults.{HasNone, IsFirst}
-use Rattle.hold_roles.specs.Roots.{IsAssigned, IsWalk, last_of, EndsAt, IsRoot, IsRing}
-use Rattle.hold_roles.specs.inner.Marks.{slot_drivers, drivers_in, driver_source, source_in, first_mark, root_in, is_open, ending, AreDone, AreLinks, AreMarked, AreMarkedWith, AreRoots, CanSettle, Falls, IsAt, IsClosing, IsEnd, IsLost, IsOnMarkedRing, IsOnRing, IsOnWay, IsWalked, Leads, LeadsOn, MarkHolds, OpensIn}
+use Rattle.hold_roles.specs.Roots.{IsAssigned, EndsAt, IsRoot, IsRing}
+use Rattle.hold_roles.specs.inner.Marks.{slot_drivers, drivers_in, driver_source, source_in, first_mark, root_in, is_open, ending, AreDone, AreLinks, AreMarked, AreMarkedWith, AreRoots, CanSettle, Falls, IsAt, IsClosing, IsEnd, IsLost, IsOnMarkedRing, IsOnRing, IsOnWay, IsWalked, MarkHolds, OpensIn}
 use Rattle.hold_roles.proofs.WalkLemmas.{IsRing-leads, Leads-here, Leads-step, Leads-trans, LeadsOn-leads, LeadsOn-then, IsRoot-leads, lt-never, one_source, ring_inside, root-no_ring}
 
 -- ---- lists with one item changed
@@ -412,9 +412,6 @@ pub record IsSettling (mark : Mark) (all : List NetNo) (old : List Mark) (left :
   pub news : Falls New old marks
   pub each : length marks ≡ length old
 
-pub settling-start : (mark : Mark) (all : List NetNo) (marks : List Mark) → AllByRecursion (λ net. net.0 < length marks) all → IsSettling mark all marks all marks
-settling-start mark all marks within = record { marked = λ drivers can opens. (can, opens); within = within; news = λ x is. is; each = refl }
-
 pub settling-step : (mark : Mark) (all : List NetNo) (old : List Mark) (net : NetNo) (left : List NetNo) (marks : List Mark) → IsEnd mark
     → IsSettling mark all old (net ∷ left) marks → IsAt marks net.0 Open → IsSettling mark all old left (set marks net.0 mark)
 settling-step mark all old net left marks end h opened = record {
@@ -484,21 +481,6 @@ pub settles-closed : (slots : List Slot) (marks : List Mark) (at : ℕ) (d m : M
 settles-closed slots marks at d m h closed is =
     subst (CanSettle (drivers_in slots) marks) (sym is)
     (settles-at slots marks at (get_or marks at d) h (slice_get-get_or marks at d h.within) (is_open-apart (get_or marks at d) closed))
-
-pub opened-at : (marks : List Mark) (at : ℕ) (d : Mark) → at < length marks → is_open (get_or marks at d) ≡ true → IsAt marks at Open
-opened-at marks at d within opened = slice_get-get_or marks at d within ∙ ap Some (is_open-Open (get_or marks at d) opened)
-
--- what an item of a list isn't before a place, and not there, it isn't up to there
-pub none_below : {X : Type 0} (xs : List X) (y : X) (n : ℕ) → ((m : ℕ) → m < n → slice_get xs m ≡ Some y → ⊥) → (slice_get xs n ≡ Some y → ⊥)
-    → (m : ℕ) → m < n + 1 → slice_get xs m ≡ Some y → ⊥
-none_below xs y n before here m lt is = by (cases_eq m n)
-  where
-    by : ((m ≡ n) ⊎ (m ≡ n → ⊥)) → ⊥
-    by (inl e) = here (ap (slice_get xs) (sym e) ∙ is)
-    by (inr d) = before m (omega arith) is
-
-pub none_at_all : {X : Type 0} (xs : List X) (y : X) (n : ℕ) → length xs ≤ n → ((m : ℕ) → m < n → slice_get xs m ≡ Some y → ⊥) → (m : ℕ) → slice_get xs m ≡ Some y → ⊥
-none_at_all xs y n past before m is = let within = slice_get_within xs m y is in before m (omega arith) is
 
 -- ---- the first marks
 

@@ -1,11 +1,11 @@
 -- The slots of net bits, filled drive by drive: what they hold, and that nothing in them is past the last net bit.
-use Rattle.std.proofs.Common.{◌≡◌, ℕ, zero, suc, ◌+◌, ◌<◌, ◌≤◌, ◌⊎◌, inl, inr, List, [], ◌∷◌, ◌++◌, length, set, take, drop, get_or, map, replicate, Bool, true, false, cond, refl, sym, ap, subst, ◌∙◌, arith}
-use Rattle.std.specs.Prelude.{Contains, Some, None, Option, slice_get, slice_index_or, flat_map, ◌==◌, sum_by}
+use Rattle.std.proofs.Common.{◌≡◌, ℕ, zero, suc, ◌+◌, ◌<◌, ◌≤◌, ◌⊎◌, inl, inr, List, [], ◌∷◌, ◌++◌, length, take, drop, get_or, map, replicate, Bool, true, false, cond, refl, sym, ap, subst, ◌∙◌, arith}
+use Rattle.std.specs.Prelude.{Contains, Some, None, Option, slice_get, slice_index_or, flat_map, ◌==◌}
 use Rattle.std.specs.List.{AllByRecursion, range_with_len}
 use Rattle.std.proofs.lemmas.Bool.{cases_eq, eq-eqb, ne_eqb}
 use Rattle.std.proofs.lemmas.List.{get_or_past, get_or-set_same, get_or-set_other, length-set, length-replicate, take-append-le, take_all}
 use Rattle.std.proofs.lemmas.List.Sums.{fold-append, sum_by-cons}
-use Rattle.std.proofs.lemmas.Option.{slice_get_within, slice_get-get_or, get_or_from_slice_get}
+use Rattle.std.proofs.lemmas.Option.{slice_get-get_or, get_or_from_slice_get}
 use Rattle.hold_base.proofs.Lists.{AllByRecursion-append, AllByRecursion-flat_map}
 use Rattle.hold_netlist.specs.declared.inst.Source.{Source}
 use Rattle.hold_netlist.specs.declared.inst.Source.TheVariants.{Net, Zero, One, Empty}
@@ -24,7 +24,7 @@ use Rattle.hold_roles.specs.declared.role.CellType.{CellType}
 use Rattle.hold_roles.specs.declared.drivers.Driver.{Driver}
 use Rattle.hold_roles.specs.declared.drivers.Driver.TheVariants.{Pin as ByPin, Net as ByNet, Zero as ByZero, One as ByOne}
 use Rattle.hold_roles.specs.declared.drivers.Slot.{Slot}
-use Rattle.hold_roles.specs.declared.drivers.Slot.TheVariants.{Free, Only, Several}
+use Rattle.hold_roles.specs.declared.drivers.Slot.TheVariants.{Free, Several}
 use Rattle.hold_roles.specs.Types.{type_named}
 use Rattle.hold_roles.specs.TypePins.{is_output_pin}
 use Rattle.hold_roles.specs.Drivers.{assign_drive, bit_drive, cell_drives, direction_drives, drives, drivers, drivers_on, inst_drives, net_drive, pin_drive, pin_drives, port_drives, source_drive, IsDoubleDriven}

@@ -16,7 +16,7 @@
 -- drivers_on n drives: what drives net bit n, by these drives.
 -- drivers types d n: what drives net bit n of a netlist.
 -- IsDoubleDriven drivers n: net bit n has two drivers or more.
-use Rattle.std.specs.Prelude.{ℕ, ◌+◌, ◌<◌, ◌==◌, List, [], ◌∷◌, ◌++◌, length, map, flat_map, Option, Some, None, Bool, true, false, if◌then◌else◌}
+use Rattle.std.specs.Prelude.{ℕ, ◌+◌, ◌<◌, ◌==◌, List, [], ◌∷◌, ◌++◌, length, map, flat_map, Option, Some, None, if◌then◌else◌}
 use Rattle.std.specs.List.{range_with_len}
 use Rattle.hold_netlist.specs.declared.inst.Source.{Source}
 use Rattle.hold_netlist.specs.declared.inst.Source.TheVariants.{Net, Zero, One, Empty}

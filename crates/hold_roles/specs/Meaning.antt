@@ -9,6 +9,7 @@
 -- IsOnlyExtension types rows n w old new: new is the one solution of w that is old where it is kept to n.
 -- Same types kinds n w: under all fair rows each solution of w, kept to n, solves n, and all of n reads the same in both; and each
 --   solution of n is kept from exactly one solution of w.
+-- Worked example, in proofs/Examples: Same-self.
 use Rattle.std.specs.Prelude.{◌≡◌, ℕ, ◌<◌, List, [], ◌∷◌, take, Bool, Contains}
 use Rattle.hold_netlist.specs.declared.inst.Source.{Source}
 use Rattle.hold_netlist.specs.declared.inst.Pin.{Pin}

@@ -15,6 +15,8 @@
 -- IsAssignSolved values a: an assignment's left side has the value of its right one.
 -- IsSolution types rows d values: the values are a solution of the netlist: one for each net bit, and each assignment and each instance
 --   is solved. Net bits that nothing of this speaks of are free: outputs of registers and of opaque types, input ports, undriven ones.
+-- Worked examples, in proofs/Examples: divider-solved, divider-only, aliases-solved, aliases-only, empty_input-solved, empty_input-only,
+--   unwritten_input-solved, unwritten_input-only.
 use Rattle.std.specs.Prelude.{◌≡◌, ℕ, List, [], ◌∷◌, length, map, Option, Some, None, Bool, true, false, ◌&&◌, IsTrue, bytes_eq, slice_index_or, if◌then◌else◌}
 use Rattle.std.specs.List.{AllByRecursion}
 use Rattle.hold_netlist.specs.declared.inst.Source.{Source}

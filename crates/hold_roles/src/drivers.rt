@@ -1,9 +1,9 @@
 ghost use Rattle.std.specs.Prelude.{◌≡◌, ◌+◌, ◌^◌, ◌≤◌, ◌<◌, ◌↔◌, length, map, flat_map, slice_get, Some, IfOk, IfSome, IfNone, IsTrue};
 ghost use Rattle.std.specs.List.{AllByRecursion, range_with_len};
 ghost use Rattle.hold_base.specs.Limits.{pins_limit};
-ghost use Rattle.hold_netlist.specs.Bits.{bits_of, width_of};
+ghost use Rattle.hold_netlist.specs.Bits.{bits_of};
 ghost use Rattle.hold_netlist.specs.Pins.{connection_count};
-ghost use Rattle.hold_netlist.specs.WellFormed.{IsSource, IsWrittenAssign, IsWrittenInst, IsWrittenPin};
+ghost use Rattle.hold_netlist.specs.WellFormed.{IsWrittenAssign, IsWrittenInst, IsWrittenPin};
 ghost use Rattle.hold_roles.specs.declared.drivers.Slot.{Slot};
 ghost use Rattle.hold_roles.specs.Drivers.{assign_drive, bit_drive, cell_drives, direction_drives, drivers, drives, inst_drives, pin_drive, pin_drives, port_drives};
 ghost use Rattle.hold_roles.specs.Types.{type_named};

@@ -1,5 +1,5 @@
 ghost use Rattle.std.specs.Prelude.{◌≡◌, ◌≤◌};
-ghost use Rattle.hold_base.specs.Limits.{bits_limit, pins_limit};
+ghost use Rattle.hold_base.specs.Limits.{pins_limit};
 ghost use Rattle.hold_netlist.specs.Bits.{bits_of, width_of};
 ghost use Rattle.hold_netlist.specs.Pins.{connection_count, port_bits};
 ghost use Rattle.hold_roles.specs.Faults.{passed_limit};

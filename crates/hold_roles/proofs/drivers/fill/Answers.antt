@@ -2,7 +2,6 @@ use Rattle.std.proofs.Common.{◌≡◌, ap, ◌∙◌}
 use Rattle.std.specs.Prelude.{flat_map}
 use Rattle.hold_netlist.specs.Pins.{connection_count}
 use Rattle.hold_roles.specs.Drivers.{assign_drive, inst_drives, port_drives}
-use Rattle.hold_roles.specs.inner.Slots.{with_drives}
 use Rattle.hold_roles.proofs.SlotLemmas.{three-parts}
 use Rattle.hold_roles.proofs.drivers.fill.Goals as goal
 

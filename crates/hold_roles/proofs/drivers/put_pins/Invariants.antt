@@ -1,6 +1,5 @@
-use Rattle.std.proofs.Common.{◌≡◌, ◌+◌, ◌≤◌, drop, length}
+use Rattle.std.proofs.Common.{◌≡◌, ◌+◌, drop, length}
 use Rattle.std.specs.List.{AllByRecursion}
-use Rattle.hold_base.specs.Limits.{pins_limit}
 use Rattle.hold_netlist.specs.WellFormed.{IsWrittenPin}
 use Rattle.hold_roles.specs.Drivers.{pin_drives}
 use Rattle.hold_roles.specs.inner.Slots.{with_drives}

@@ -1,6 +1,5 @@
 use Rattle.std.proofs.Common.{◌+◌, ◌-◌, List, ap, arith, ◌∙◌, length, map}
 use Rattle.std.specs.List.{range_with_len}
-use Rattle.std.proofs.lemmas.List.{length-set}
 use Rattle.hold_roles.specs.declared.drivers.Slot.{Slot}
 use Rattle.hold_roles.specs.Drivers.{bit_drive}
 use Rattle.hold_roles.specs.inner.Slots.{with_drives}

@@ -1,4 +1,4 @@
-use Rattle.std.proofs.Common.{◌≡◌, ◌+◌, ◌≤◌, drop, length}
+use Rattle.std.proofs.Common.{◌≡◌, ◌+◌, drop, length}
 use Rattle.hold_netlist.specs.Bits.{bits_of}
 use Rattle.hold_roles.specs.Drivers.{port_drives}
 use Rattle.hold_roles.specs.inner.Slots.{with_drives}

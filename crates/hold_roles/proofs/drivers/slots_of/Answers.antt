@@ -1,4 +1,4 @@
-use Rattle.std.proofs.Common.{◌≡◌, length, replicate, rules, ap, ◌∙◌, sym}
+use Rattle.std.proofs.Common.{◌≡◌, length, replicate, ap, ◌∙◌, sym}
 use Rattle.hold_netlist.specs.Bits.{bits_of}
 use Rattle.hold_roles.specs.declared.drivers.Slot.TheVariants.{Free}
 use Rattle.hold_roles.specs.Drivers.{drives}

@@ -1,4 +1,4 @@
-use Rattle.std.proofs.Common.{List, ap, ◌∙◌, length, sym, subst, ◌<◌, ℕ, get_or}
+use Rattle.std.proofs.Common.{List, ◌∙◌, length, sym, subst, ◌<◌, get_or}
 use Rattle.hold_roles.specs.declared.role.CellType.{CellType}
 use Rattle.hold_roles.proofs.CellLemmas.{cell-within, cell-type}
 use Rattle.hold_roles.proofs.bound.Bound.cell.Goals as goal

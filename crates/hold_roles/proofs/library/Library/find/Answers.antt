@@ -1,4 +1,4 @@
-use Rattle.std.proofs.Common.{◌≡◌, List, ap, sym, ◌∙◌, subst}
+use Rattle.std.proofs.Common.{List, ap, sym, ◌∙◌}
 use Rattle.std.specs.Prelude.{slice_get}
 use Rattle.hold_roles.specs.declared.role.CellType.{CellType}
 use Rattle.hold_roles.proofs.NamePlaceLemmas.{type_at, no_type}
