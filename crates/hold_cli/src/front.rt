@@ -3,6 +3,7 @@ ghost use Rattle.hold_files.specs.Told.{Rose, OnlyReads};
 ghost use Rattle.hold_cli.specs.declared.outcome.Fault.{Fault as Refusal};
 ghost use Rattle.hold_cli.specs.declared.job_form.Job.{Job as JobData};
 ghost use Rattle.hold_cli.specs.JobForm.{IsJobText};
+ghost use Rattle.hold_graph.specs.Graph.{EndsOnce};
 ghost use Rattle.hold_graph.specs.Problem.{IsValid};
 ghost use Rattle.hold_plain.specs.Limits.{KeepsLimits};
 ghost use Rattle.hold_plain.specs.Problem.{problem_of};
@@ -44,6 +45,7 @@ pub fn read_front<F: Files>(alloc: Global, files: &mut F, name: &Name) -> Result
     ensures built { IfOk result (λ front. IsBuilt front.job front.built.netlist) }
     ensures problem { IfOk result (λ front. front.built.problem ≡ problem_of front.job.timing front.built.netlist) }
     ensures valid { IfOk result (λ front. IsValid front.built.problem) }
+    ensures once { IfOk result (λ front. EndsOnce front.built.problem.graph.arcs) }
     ensures found { IfOk result (λ front. IsTold (F.told files.old) name.now
         → IsFront (F.told files.old) name.now front.job front.built.netlist) }
     ensures refused { (fault : Refusal) → IsErrOf result (Stopped.Refused fault)
@@ -103,6 +105,7 @@ fn read_netlist<F: Files>(alloc: Global, files: &mut F, job: &Job) -> Result<Bui
     ensures built { IfOk result (λ built. IsBuilt job.now built.netlist) }
     ensures problem { IfOk result (λ built. built.problem ≡ problem_of job.now.timing built.netlist) }
     ensures valid { IfOk result (λ built. IsValid built.problem) }
+    ensures once { IfOk result (λ built. EndsOnce built.problem.graph.arcs) }
     ensures found { IfOk result (λ built. (text : List ℕ)
         → (F.told files.old).content job.now.netlist ≡ Some text
         → IsNetlistAt (F.told files.old) job.now built.netlist) }
@@ -131,6 +134,7 @@ fn build(alloc: Global, job: &Job, text: &[u8]) -> Result<Built, Stopped>
     ensures built { IfOk result (λ built. IsBuilt job.now built.netlist) }
     ensures problem { IfOk result (λ built. built.problem ≡ problem_of job.now.timing built.netlist) }
     ensures valid { IfOk result (λ built. IsValid built.problem) }
+    ensures once { IfOk result (λ built. EndsOnce built.problem.graph.arcs) }
     ensures refused { (fault : Refusal) → IsErrOf result (Stopped.Refused fault)
         → RefusesText job.now text.now fault }
     ensures unread { (file : List ℕ) → IsErrOf result (Stopped.Read file) → ⊥ }
@@ -156,6 +160,7 @@ fn plain_problem(alloc: Global, job: &Job, netlist: &Netlist) -> Result<Option<P
     ensures built { IfOk result (λ found. IfSome found (λ problem. IsBuilt job.now netlist.now)) }
     ensures is { IfOk result (λ found. IfSome found (λ problem. problem ≡ problem_of job.now.timing netlist.now)) }
     ensures valid { IfOk result (λ found. IfSome found (λ problem. IsValid problem)) }
+    ensures once { IfOk result (λ found. IfSome found (λ problem. EndsOnce problem.graph.arcs)) }
     ensures none { IfOk result (λ found. IfNone found (IsBuilt job.now netlist.now → ⊥)) }
 {
     netlist.know_valid();

@@ -9,6 +9,7 @@ ghost use Rattle.hold_netlist.specs.Design.{Design};
 ghost use Rattle.hold_netlist.specs.CanonicalText.{canonical_text};
 ghost use Rattle.hold_cli.specs.declared.job_form.Job.{Job as JobData};
 ghost use Rattle.hold_graph.specs.declared.problem.Listed.{Listed as Path};
+ghost use Rattle.hold_graph.specs.Graph.{EndsOnce};
 ghost use Rattle.hold_graph.specs.Problem.{IsValid};
 ghost use Rattle.hold_graph.specs.Sums.{no_buffers};
 ghost use Rattle.hold_graph.specs.Met.{IsMet, Misses};
@@ -177,6 +178,7 @@ fn deliver<F: Files>(alloc: Global, files: &mut F, front: &Front) -> Outcome
     requires apart { front.now.job.certificate ≢ front.now.job.output }
     requires problem { front.now.built.problem ≡ problem_of front.now.job.timing front.now.built.netlist }
     requires valid { IsValid front.now.built.problem }
+    requires once { EndsOnce front.now.built.problem.graph.arcs }
     ensures answer { IsDelivery (F.told files.old) (F.told files.new) front.now.job front.now.built.netlist result }
     ensures goes_on { GoesOn (F.told files.old) (F.told files.new) }
 {

@@ -8,7 +8,7 @@ use Rattle.hold_graph.specs.declared.graph.Arc.{Arc}
 use Rattle.hold_graph.specs.declared.graph.Parts.{Parts}
 use Rattle.hold_graph.specs.declared.problem.Spans.{Spans}
 use Rattle.hold_graph.specs.declared.problem.Problem.{Problem}
-use Rattle.hold_graph.specs.Graph.{IsNumbered}
+use Rattle.hold_graph.specs.Graph.{NamesItsPins}
 use Rattle.hold_graph.specs.Problem.{IsValidCorner}
 use Rattle.hold_graph.specs.inner.Arrival.{weight, coming, left_at, left_by, base_of, AreTables, IsEnough, IsMetAt, IsShort, IsSettled, IsFound}
 use Rattle.hold_graph.proofs.Excess.{met_from, found_excess, IsExcess}
@@ -20,7 +20,7 @@ left_by-left_at side parts spans period into best ends checks capture arcs steps
 
 -- where enough is left at each capture, each path meets the side's check
 pub met_by : (side : Side) (problem : Problem) (spans : Spans) (into : List (Option ℕ)) (starts best ends checks : List (Option ℤ)) →
-    AreTables side problem.graph spans into starts best ends checks → IsValidCorner problem spans → IsNumbered problem.graph →
+    AreTables side problem.graph spans into starts best ends checks → IsValidCorner problem spans → NamesItsPins problem.graph →
     (arcs : List Arc) (steps : List ℤ) (base : ℤ) (captures : List PinNo) →
     arcs ≡ problem.graph.arcs → steps ≡ map (weight side) spans.arcs → base ≡ base_of side problem.period → captures ≡ problem.graph.captures →
     All (λ (capture : PinNo). IsEnough (left_by arcs steps base into best ends checks capture)) captures → IsMetAt side problem spans
@@ -37,7 +37,7 @@ FoundFor side spans starts into best path capture pins arcs =
 
 -- where something is missing at a capture, the path found there falls short by it
 pub short_by : (side : Side) (problem : Problem) (spans : Spans) (into : List (Option ℕ)) (starts best ends checks : List (Option ℤ)) →
-    AreTables side problem.graph spans into starts best ends checks → IsValidCorner problem spans → IsNumbered problem.graph →
+    AreTables side problem.graph spans into starts best ends checks → IsValidCorner problem spans → NamesItsPins problem.graph →
     (pins : ℕ) (arcs : List Arc) (steps : List ℤ) (base : ℤ) (captures : List PinNo) → pins ≡ problem.graph.pins →
     arcs ≡ problem.graph.arcs → steps ≡ map (weight side) spans.arcs → base ≡ base_of side problem.period → captures ≡ problem.graph.captures →
     (path : List PinNo) (capture : PinNo) (short : ℤ) → Contains captures capture →

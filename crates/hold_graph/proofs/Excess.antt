@@ -10,7 +10,7 @@ use Rattle.hold_base.specs.declared.time.Side.TheVariants.{Early, Late}
 use Rattle.hold_graph.specs.declared.graph.Parts.{Parts}
 use Rattle.hold_graph.specs.declared.problem.Spans.{Spans}
 use Rattle.hold_graph.specs.declared.problem.Problem.{Problem}
-use Rattle.hold_graph.specs.Graph.{IsNumbered}
+use Rattle.hold_graph.specs.Graph.{NamesItsPins}
 use Rattle.hold_graph.specs.Path.{last_pin, IsCheckedPath}
 use Rattle.hold_graph.specs.Sums.{no_buffers, greatest_of, items_at}
 use Rattle.hold_base.specs.Interval.{hull_of}
@@ -52,7 +52,7 @@ left-some (Some s) (Some end) (Some check) base e c x h is_e is_c =
 
 -- where enough is left at each capture, every checked path meets the side's check
 pub met_from : (side : Side) (problem : Problem) (spans : Spans) (into : List (Option ℕ)) (starts best ends checks : List (Option ℤ)) →
-    AreTables side problem.graph spans into starts best ends checks → IsValidCorner problem spans → IsNumbered problem.graph →
+    AreTables side problem.graph spans into starts best ends checks → IsValidCorner problem spans → NamesItsPins problem.graph →
     ((c : PinNo) → Contains problem.graph.captures c → (v : ℤ) → left_at side problem.graph spans problem.period into best ends checks c ≡ Some v → pos 0 ≤ℤ v) →
     (path : List PinNo) → IsCheckedPath problem.graph path → pos 0 ≤ℤ excess side problem spans no_buffers path
 met_from side problem spans into starts best ends checks tables valid numbers enough [] checked = absurd checked
@@ -103,7 +103,7 @@ excess_sum side parts spans rest first c last own start sum e k base v is_own va
     rw last (omega (arith, ints))
 
 pub found_excess : (side : Side) (problem : Problem) (spans : Spans) (into : List (Option ℕ)) (starts best ends checks : List (Option ℤ)) →
-    AreTables side problem.graph spans into starts best ends checks → IsValidCorner problem spans → IsNumbered problem.graph →
+    AreTables side problem.graph spans into starts best ends checks → IsValidCorner problem spans → NamesItsPins problem.graph →
     (path : List PinNo) (c : PinNo) (v : ℤ) → Contains problem.graph.captures c →
     left_at side problem.graph spans problem.period into best ends checks c ≡ Some v →
     ((sum : ℤ) → coming side problem.graph.arcs spans into best c ≡ Some sum → IsFound side problem.graph.arcs spans starts path c sum) →

@@ -1,5 +1,5 @@
 -- AreBelow pins listed: each listed pin is below `pins`.
--- IsNumbered parts: every pin that a list of the parts names is below `pins`. Empty lists name none.
+-- NamesItsPins parts: every pin that a list of the parts names is below `pins`. Empty lists name none.
 -- EndsOnce arcs: no two arcs, at different places, end at one pin. So no two arcs join the same two pins.
 -- Rises arcs ranks: each arc runs from a pin of lower rank to one of higher rank. A pin past the ranks has rank 0.
 use Rattle.std.specs.Prelude.{◌≡◌, ℕ, ◌<◌, List, Some, slice_get, slice_index, All}
@@ -11,7 +11,7 @@ use Rattle.hold_graph.specs.declared.graph.Parts.{Parts}
 abbrev pub AreBelow : ℕ → List PinNo → Type 0
 AreBelow pins = All (λ pin. pin.0 < pins)
 
-pub record IsNumbered (parts : Parts) : Type 0 where
+pub record NamesItsPins (parts : Parts) : Type 0 where
   pub from : All (λ arc. arc.from.0 < parts.pins) parts.arcs
   pub to : All (λ arc. arc.to.0 < parts.pins) parts.arcs
   pub launches : AreBelow parts.pins parts.launches

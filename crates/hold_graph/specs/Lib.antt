@@ -1,7 +1,11 @@
 pub mod Graph
 pub mod Path
+pub mod Adjacency
+pub mod Cycles
+pub mod SitePins
 pub mod Sums
 pub mod Problem
 pub mod Met
 pub mod Sites
+pub mod Boxes
 pub mod inner

@@ -1,43 +1,23 @@
--- EndsWire parts pin: some checked path has a step that a wire arc makes and that comes to the pin.
--- IsSite parts pin: the pin ends a wire arc on a checked path, is no kept pin, and no walk of zero or more arcs leads from it
---   to a clock pin. So a clock pin is none, and a launch that no wire arc ends at is none.
--- AreSites parts sites: the sites in pin order, each once. Empty where no path is checked.
+-- EndsWire, IsSite, AreSites: what pins the sites are, in SitePins.
 -- Counts go by variable, `site * kinds + kind`, where a site is told by its place among the sites and a kind by its own.
 -- count_at kinds counts site kind: the count of that kind at the site of that place; 0 where there is no site.
 -- buffers_of kinds sites counts: these counts as buffers in front of pins, of kinds below `kinds`. None stands in front of a pin
 --   that is no site, and a variable past the counts has 0.
 -- chain_sum kinds counts site: how many buffers stand at the site.
 -- IsBuffering problem sites counts: each variable has a count from 0 to 16, and no site has more than `max_chain`.
+-- AreCountsOf problem counts: there is one count for each variable of the problem.
 -- cost_from costs var counts: the cost of these counts, where the first is that of the variable `var`.
 -- cost_of costs counts: each count times its kind's cost, summed. Where there is no kind there is no variable and no cost.
 -- Meets problem sites counts: the sites are the problem's, the counts are a buffering over them, and with it the problem is
 --   met. Where the problem has a site, no empty list of sites meets it.
 -- Worked examples, in proofs/SiteExamples: cost-one_site, cost-two_sites, kept-no_site, unchecked-no_site, no_sites-buffering, no_sites-unmet.
-use Rattle.std.specs.Prelude.{◌≡◌, ℕ, ◌+◌, ◌*◌, ◌%◌, ◌<◌, ◌≤◌, ◌==◌, true, List, [], ◌∷◌, ◌++◌, length, sum, position, Option, Some, None, slice_get, slice_index, slice_range, Contains, All}
+use Rattle.std.specs.Prelude.{◌≡◌, ℕ, ◌+◌, ◌*◌, ◌%◌, ◌<◌, ◌≤◌, ◌==◌, List, [], ◌∷◌, length, sum, position, Option, Some, None, slice_index, slice_range, All}
 use Rattle.hold_base.specs.Limits.{chain_limit}
 use Rattle.hold_base.specs.declared.number.PinNo.{PinNo}
-use Rattle.hold_graph.specs.declared.graph.Parts.{Parts}
 use Rattle.hold_graph.specs.declared.problem.Problem.{Problem}
-use Rattle.hold_graph.specs.Path.{EachNext, last_pin, IsCheckedPath}
+pub use Rattle.hold_graph.specs.SitePins.{EndsWire, IsSite, AreSites}
 use Rattle.hold_graph.specs.Sums.{Buffers}
 use Rattle.hold_graph.specs.Met.{IsMet}
-
-pub record EndsWire (parts : Parts) (pin : PinNo) : Type 0 where
-  pub before : List PinNo
-  pub source : PinNo
-  pub after : List PinNo
-  pub checked : IsCheckedPath parts (before ++ source ∷ pin ∷ after)
-  pub wire : Contains parts.arcs (record { from = source; to = pin; wire = true })
-
-pub record IsSite (parts : Parts) (pin : PinNo) : Type 0 where
-  pub ends : EndsWire parts pin
-  pub free : Contains parts.keeps pin → ⊥
-  pub off_clock : (steps : List PinNo) → EachNext parts.arcs pin steps → Contains parts.clocks (last_pin pin steps) → ⊥
-
-pub record AreSites (parts : Parts) (sites : List PinNo) : Type 0 where
-  pub sound : All (IsSite parts) sites
-  pub whole : (pin : PinNo) → IsSite parts pin → Contains sites pin
-  pub rising : (j k : ℕ) (a b : PinNo) → j < k → slice_get sites j ≡ Some a → slice_get sites k ≡ Some b → a.0 < b.0
 
 -- the count of a kind at the site of that place, if any
 abbrev pub count_at : ℕ → List ℕ → Option ℕ → ℕ → ℕ
@@ -54,6 +34,9 @@ pub record IsBuffering (problem : Problem) (sites : List PinNo) (counts : List �
   pub each : length counts ≡ length sites * length problem.costs
   pub most : All (λ count. count ≤ chain_limit) counts
   pub chains : (site : ℕ) → site < length sites → chain_sum (length problem.costs) counts site ≤ problem.max_chain
+
+abbrev pub AreCountsOf : Problem → List ℕ → Type 0
+AreCountsOf problem counts = (sites : List PinNo) → AreSites problem.graph sites → length counts ≡ length sites * length problem.costs
 
 -- the cost of the counts of the variables from this one on
 abbrev pub cost_from : List ℕ → ℕ → List ℕ → ℕ

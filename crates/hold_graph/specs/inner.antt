@@ -1,5 +1,10 @@
+pub mod Adjacency
+pub mod Marks
+pub mod Sites
 pub mod Graph
 pub mod Arrival
 pub mod Ordered
 pub mod Order
 pub mod Tables
+pub mod Waiting
+pub mod Trail

@@ -4,7 +4,8 @@ ghost use Rattle.hold_base.specs.Limits.{launch_limit};
 ghost use Rattle.hold_graph.specs.inner.Arrival.{extended, offer, sum_limit, AreWithin, IsRight};
 ghost use Rattle.hold_graph.specs.inner.Ordered.{IsInOrder};
 
-use crate::graph::{Arc, Ordered};
+use crate::graph::Arc;
+use crate::line::Ordered;
 use crate::table::lesser;
 use hold_base::Memory;
 use std::alloc::Global;

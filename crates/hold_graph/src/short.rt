@@ -7,7 +7,7 @@ ghost use Rattle.hold_graph.specs.inner.Ordered.{IsInOrder};
 ghost use Rattle.hold_graph.specs.inner.Tables.{AreSized};
 
 use crate::arrival::offer;
-use crate::graph::Ordered;
+use crate::line::Ordered;
 use crate::tables::Tables;
 use hold_base::{PinNo, Side};
 

@@ -5,7 +5,7 @@ ghost use Rattle.std.specs.Prelude.{◌≡◌, IfOk};
 ghost use Rattle.hold_graph.specs.inner.Arrival.{checks_of};
 
 use crate::arrival::arrivals;
-use crate::graph::Ordered;
+use crate::line::Ordered;
 use crate::problem::{Problem, Spans};
 use crate::side::{negated, opposite, weights};
 use crate::table::least_by_pin;

@@ -4,7 +4,7 @@ ghost use Rattle.hold_graph.specs.declared.problem.Spans.{Spans as CornerSpans};
 ghost use Rattle.hold_graph.specs.inner.Arrival.{coming, CameBy, IsFound, IsSettled};
 ghost use Rattle.hold_graph.specs.inner.Ordered.{IsInOrder};
 
-use crate::graph::Ordered;
+use crate::line::Ordered;
 use hold_base::{Memory, PinNo};
 use std::alloc::Global;
 

@@ -1,11 +1,12 @@
 ghost use Rattle.std.specs.Prelude.{IfOk, IfSome, IfNone};
+ghost use Rattle.hold_graph.specs.Graph.{EndsOnce};
 ghost use Rattle.hold_graph.specs.Problem.{IsValid, IsValidCorner};
 ghost use Rattle.hold_graph.specs.Sums.{no_buffers};
 ghost use Rattle.hold_graph.specs.Met.{IsMet, Misses};
 ghost use Rattle.hold_graph.specs.inner.Arrival.{IsMetAt, IsShort};
 ghost use Rattle.hold_graph.specs.inner.Ordered.{IsOrderedOf};
 
-use crate::graph::Ordered;
+use crate::line::{Ordered, places_into, ranks_of};
 use crate::problem::{Listed, Problem, Spans};
 use crate::short::{base, first_short};
 use crate::tables::tables_of;
@@ -62,16 +63,19 @@ fn short_in_corner(
     }
 }
 
-/// A checked path that misses a check where no buffer is put in, and by how much, in fs. None comes where
-/// every checked path meets both its checks in every corner. Corners and sides are asked in their order.
-pub fn worst_line(alloc: Global, problem: &Problem) -> Result<Option<(Listed, i64)>, Memory>
+/// The same in the first corner in which one misses.
+fn short_in_problem(
+    alloc: Global,
+    problem: &Problem,
+    line: &Ordered<'_>,
+) -> Result<Option<(Listed, i64)>, Memory>
     requires valid { IsValid problem.now }
+    requires line { IsOrderedOf problem.now.graph line.now }
     ensures met { IfOk result (λ found. IfNone found (IsMet problem.now no_buffers)) }
     ensures missed { IfOk result (λ found. IfSome found (λ miss. Misses problem.now no_buffers miss.0 miss.1)) }
 {
-    let line = problem.graph.ordered();
     for (number, spans) in problem.corners.as_slice().iter().enumerate() {
-        if let Some((side, pins, short)) = short_in_corner(alloc, problem, &line, spans)? {
+        if let Some((side, pins, short)) = short_in_corner(alloc, problem, line, spans)? {
             let listed = Listed {
                 side,
                 corner: CornerNo(number as u8),
@@ -81,4 +85,27 @@ pub fn worst_line(alloc: Global, problem: &Problem) -> Result<Option<(Listed, i6
         }
     }
     Ok(None)
+}
+
+/// A checked path that misses a check where no buffer is put in, and by how much, in fs. None comes where
+/// every checked path meets both its checks in every corner. Corners and sides are asked in their order.
+pub fn worst_line(alloc: Global, problem: &Problem) -> Result<Option<(Listed, i64)>, Memory>
+    requires valid { IsValid problem.now }
+    requires once { EndsOnce problem.now.graph.arcs }
+    ensures met { IfOk result (λ found. IfNone found (IsMet problem.now no_buffers)) }
+    ensures missed { IfOk result (λ found. IfSome found (λ miss. Misses problem.now no_buffers miss.0 miss.1)) }
+{
+    let parts = problem.graph.parts();
+    let arcs = parts.arcs.as_slice();
+    let order = problem.graph.order();
+    let ranks = ranks_of(alloc, parts.pins, order)?;
+    let into = places_into(alloc, parts.pins, arcs)?;
+    let line = Ordered {
+        pins: parts.pins,
+        arcs,
+        ranks: ranks.as_slice(),
+        order,
+        into: into.as_slice(),
+    };
+    short_in_problem(alloc, problem, &line)
 }

@@ -9,9 +9,9 @@ use Rattle.hold_graph.specs.declared.graph.Arc.{Arc}
 use Rattle.hold_graph.specs.declared.graph.Parts.{Parts}
 use Rattle.hold_graph.specs.declared.problem.Spans.{Spans}
 use Rattle.hold_graph.specs.declared.problem.Problem.{Problem}
-use Rattle.hold_graph.specs.Graph.{AreBelow, EndsOnce, IsNumbered, Rises}
+use Rattle.hold_graph.specs.Graph.{AreBelow, EndsOnce, NamesItsPins, Rises}
 use Rattle.hold_graph.specs.Problem.{IsSpan, IsWithin, IsValid, IsValidCorner}
-use Rattle.hold_base.specs.Limits.{time_limit, launch_limit}
+use Rattle.hold_base.specs.Limits.{arcs_limit, time_limit, launch_limit}
 use Rattle.hold_plain.specs.declared.pin_use.PinUse.{PinUse}
 use Rattle.hold_plain.specs.declared.pin_use.PinRole.{PinRole}
 use Rattle.hold_plain.specs.declared.pin_use.PinRole.TheVariants.{Output}
@@ -112,7 +112,7 @@ pins_below : (is : PinRole → Bool) (uses : List PinUse) → AreBelow (length u
 pins_below is uses = pins_from_below is (length uses) 0 uses (omega arith)
 
 -- each pin that is named is there
-pub parts_of_numbered : (uses : List PinUse) → IsServedUses uses → All (λ u. u.inst ≤ 2 ^ 18) uses → IsNumbered (parts_of uses)
+pub parts_of_numbered : (uses : List PinUse) → IsServedUses uses → All (λ u. u.inst ≤ 2 ^ 18) uses → NamesItsPins (parts_of uses)
 parts_of_numbered uses served few = record {
   from = All-weaker (IsRising uses) (λ (arc : Arc). arc.from.0 < length uses) (λ arc h. h.within)
       (arcs_from (map driven uses) (map fed uses) 0 uses) (all_rising uses served few);
@@ -170,8 +170,8 @@ problem_with_valid period uses served timed least most =
     }
 
 -- the same of values that are equal to these lists, as they are made one after another
-pub line_numbered : (parts : Parts) (uses : List PinUse) → parts ≡ parts_of uses → IsServedUses uses → All (λ u. u.inst ≤ 2 ^ 18) uses → IsNumbered parts
-line_numbered parts uses is served few = subst IsNumbered (sym is) (parts_of_numbered uses served few)
+pub line_numbered : (parts : Parts) (uses : List PinUse) → parts ≡ parts_of uses → IsServedUses uses → All (λ u. u.inst ≤ 2 ^ 18) uses → NamesItsPins parts
+line_numbered parts uses is served few = subst NamesItsPins (sym is) (parts_of_numbered uses served few)
 
 pub line_once : (parts : Parts) (uses : List PinUse) → parts ≡ parts_of uses → EndsOnce parts.arcs
 line_once parts uses is = subst (λ (p : Parts). EndsOnce p.arcs) (sym is) (parts_of_once uses)
@@ -186,3 +186,10 @@ pub same_problem : (uses : List PinUse) (graph : Parts) (period time : ℤ) (cos
     costs ≡ [] → corners ≡ spans_of uses ∷ [] →
     ◌≡◌ {A = Problem} (record { graph = graph; period = time; max_chain = 0; costs = costs; corners = corners }) (problem_with period uses)
 same_problem uses graph period time costs corners is_graph is_time is_costs is_corners = rw (is_graph, is_time, is_costs, is_corners) refl
+
+pub line_few : (parts : Parts) (uses : List PinUse) → parts ≡ parts_of uses → IsServedUses uses → length parts.arcs ≤ arcs_limit
+line_few parts uses is served =
+    let short = length-arcs_from (map driven uses) (map fed uses) 0 uses in
+    let few = served.pins in
+    let same = ap (λ (p : Parts). length p.arcs) is in
+    omega (arith, short, few, same)

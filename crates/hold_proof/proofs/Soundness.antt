@@ -23,7 +23,7 @@ use Rattle.hold_proof.specs.Closing.{ListsChecked, IsAbove, Closes}
 use Rattle.hold_proof.specs.Proving.{Proves}
 use Rattle.hold_proof.specs.Least.{IsLeast, NoneMeets}
 use Rattle.hold_proof.proofs.Products.{times-least}
-use Rattle.hold_proof.proofs.BoxLemmas.{in_a_half, buffering-in_root}
+use Rattle.hold_graph.proofs.BoxLemmas.{in_a_half, buffering-in_root}
 
 -- the excess of a listed checked path of counts that meet is at least 0
 excess_in-least : (problem : Problem) (sites : List PinNo) (counts : List ℕ) (path : Listed) (o : Option Spans) →

@@ -10,7 +10,7 @@ use Rattle.hold_graph.specs.declared.problem.Problem.{Problem}
 use Rattle.hold_graph.specs.declared.problem.Listed.{Listed}
 use Rattle.hold_proof.specs.declared.node.Leaf.{Leaf}
 use Rattle.hold_proof.specs.declared.node.Node.TheVariants.{Leaf as LeafNode, Split as SplitNode}
-use Rattle.hold_proof.specs.declared.boxed.Boxed.{Boxed}
+use Rattle.hold_graph.specs.declared.boxed.Boxed.{Boxed}
 use Rattle.hold_proof.specs.Tree.{ProofTree, Ends, Splits, preorder}
 use Rattle.hold_proof.specs.Closing.{Closes}
 use Rattle.hold_proof.proofs.ForestLemmas.{no_tree}

@@ -8,8 +8,8 @@ use Rattle.std.specs.Prelude.{ℕ, ◌≤◌, List, Option, Some, None}
 use Rattle.hold_base.specs.declared.number.PinNo.{PinNo}
 use Rattle.hold_base.specs.declared.number.VarNo.{VarNo}
 use Rattle.hold_graph.specs.declared.problem.Problem.{Problem}
-use Rattle.hold_proof.specs.declared.boxed.Boxed.{Boxed}
-use Rattle.hold_proof.specs.Boxes.{IsPoint, root_box, lower_half, upper_half}
+use Rattle.hold_graph.specs.declared.boxed.Boxed.{Boxed}
+use Rattle.hold_graph.specs.Boxes.{IsPoint, root_box, lower_half, upper_half}
 
 pub record InForce : Type 0 where
   pub within : Boxed

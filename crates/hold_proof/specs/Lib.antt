@@ -1,5 +1,4 @@
 pub mod Tree
-pub mod Boxes
 pub mod Values
 pub mod InForce
 pub mod Closing

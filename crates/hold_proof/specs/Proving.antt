@@ -5,7 +5,7 @@ use Rattle.hold_base.specs.declared.number.PinNo.{PinNo}
 use Rattle.hold_graph.specs.declared.problem.Problem.{Problem}
 use Rattle.hold_graph.specs.declared.problem.Listed.{Listed}
 use Rattle.hold_proof.specs.Tree.{ProofTree, Ends, Splits}
-use Rattle.hold_proof.specs.Boxes.{IsPlace}
+use Rattle.hold_graph.specs.Boxes.{IsPlace}
 use Rattle.hold_proof.specs.InForce.{InForce, in_lower, in_upper}
 use Rattle.hold_proof.specs.Closing.{Closes}
 

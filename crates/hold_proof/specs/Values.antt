@@ -17,9 +17,9 @@ use Rattle.hold_graph.specs.declared.problem.Problem.{Problem}
 use Rattle.hold_graph.specs.declared.problem.Listed.{Listed}
 use Rattle.hold_graph.specs.Met.{excess}
 use Rattle.hold_graph.specs.Sites.{buffers_of, chain_sum, cost_of}
-use Rattle.hold_proof.specs.declared.boxed.Boxed.{Boxed}
+use Rattle.hold_graph.specs.declared.boxed.Boxed.{Boxed}
 use Rattle.hold_proof.specs.declared.node.Leaf.{Leaf}
-use Rattle.hold_proof.specs.Boxes.{IsPoint}
+use Rattle.hold_graph.specs.Boxes.{IsPoint}
 
 -- the excess of a path in a corner that may be missing
 abbrev pub excess_in : Problem → List PinNo → List ℕ → Listed → Option Spans → ℤ

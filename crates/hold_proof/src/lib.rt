@@ -1,13 +1,11 @@
 //! Proofs that no cheaper buffers do: trees of splits and leaves over boxes of counts, and what a tree bounds.
 #![tactic(auto)]
 
-mod boxed;
 mod claim;
 mod node;
 mod shape;
 mod short;
 
-pub use boxed::Boxed;
 pub use claim::Claim;
 pub use node::{Leaf, Node};
 pub use shape::Shape;

@@ -2,7 +2,7 @@
 -- IsOrderedOf parts line: the same, and pins and arcs are those of the parts.
 use Rattle.std.specs.Prelude.{◌≡◌, ◌<◌, length, All}
 use Rattle.hold_graph.specs.declared.graph.Parts.{Parts}
-use Rattle.hold_graph.specs.declared.graph.Ordered.{Ordered}
+use Rattle.hold_graph.specs.declared.line.Ordered.{Ordered}
 use Rattle.hold_graph.specs.Graph.{Rises}
 use Rattle.hold_graph.specs.inner.Order.{IsInto, IsOrder}
 

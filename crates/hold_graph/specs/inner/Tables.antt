@@ -5,7 +5,7 @@
 use Rattle.std.specs.Prelude.{◌≡◌, length, map, All}
 use Rattle.hold_base.specs.declared.time.Side.{Side}
 use Rattle.hold_graph.specs.declared.graph.Parts.{Parts}
-use Rattle.hold_graph.specs.declared.graph.Ordered.{Ordered}
+use Rattle.hold_graph.specs.declared.line.Ordered.{Ordered}
 use Rattle.hold_graph.specs.declared.problem.Spans.{Spans}
 use Rattle.hold_graph.specs.declared.tables.Tables.{Tables}
 use Rattle.hold_graph.specs.Problem.{IsWithin}

@@ -2,14 +2,14 @@ use Rattle.std.proofs.Common.{◌∙◌, [], ◌∷◌, ap, sym, subst, to_z, of
 use Rattle.std.proofs.lemmas.Int.{to_z-of_z}
 use Rattle.hold_graph.specs.declared.problem.Spans.{Spans}
 use Rattle.hold_graph.specs.Problem.{IsValid}
-use Rattle.hold_plain.proofs.ValidFacts.{line_numbered, line_once, line_rises, same_problem, problem_with_valid}
+use Rattle.hold_plain.proofs.ValidFacts.{line_few, line_numbered, line_once, line_rises, same_problem, problem_with_valid}
 use Rattle.hold_plain.proofs.lists.problem_with.Goals as goal
 
 pub line-requires-clause-numbers : goal.line-requires-clause-numbers
 line-requires-clause-numbers c = line_numbered c.in_ok-parts.parts c.args.uses.now c.in_ok-parts.ensures c.requires.served c.requires.insts
 
-pub line-requires-clause-once : goal.line-requires-clause-once
-line-requires-clause-once c = line_once c.in_ok-parts.parts c.args.uses.now c.in_ok-parts.ensures
+pub line-requires-clause-few : goal.line-requires-clause-few
+line-requires-clause-few c = line_few c.in_ok-parts.parts c.args.uses.now c.in_ok-parts.ensures c.requires.served
 
 pub line-requires-clause-rising : goal.line-requires-clause-rising
 line-requires-clause-rising c =
