@@ -52,7 +52,7 @@ fn arcs_of(alloc: Global, pins: u32, arcs: &[(u32, u32, bool)]) -> Result<List<A
 
 /// The parts of a shape. What names a pin that isn't there is left out.
 pub fn parts_of(alloc: Global, shape: Shape<'_>) -> Result<Parts, Memory>
-    requires { length shape.entry.arcs.now ≤ arcs_limit }
+    requires { length shape.arcs.now ≤ arcs_limit }
     ensures numbers { IfOk result NamesItsPins }
     ensures few { IfOk result (λ parts. length parts.arcs ≤ arcs_limit) }
 {
