@@ -3,7 +3,7 @@
 use crate::answer::{Answer, is_answered};
 use hold_base::What;
 
-static ROWS: [(&'static [u8], Answer); 34] = [
+static ROWS: [(&'static [u8], Answer); 38] = [
     // Too many net bits, whatever else is at fault. One bit less is no fault of this kind.
     (
         b"module m; wire [1048575:0] p, q; wire r; endmodule",
@@ -15,6 +15,23 @@ static ROWS: [(&'static [u8], Answer); 34] = [
     ),
     (
         b"module m; wire [1048575:0] p, q; XOR u(.A(p[0])); endmodule",
+        Answer::NoRole(b"XOR"),
+    ),
+    // Too many pins, which the bits of ports are too, before any other fault than too many net bits. One less is none.
+    (
+        b"module m(p, q); input [1048575:0] p; input q; XOR u(); endmodule",
+        Answer::Limit(What::Pins),
+    ),
+    (
+        b"module m(p); input [1048575:0] p; INV u(.A()); endmodule",
+        Answer::Limit(What::Pins),
+    ),
+    (
+        b"module m(p, q); input [1048575:0] p; output [1048575:0] q; wire r; endmodule",
+        Answer::Limit(What::Bits),
+    ),
+    (
+        b"module m(p); input [1048575:0] p; XOR u(); endmodule",
         Answer::NoRole(b"XOR"),
     ),
     // A type that isn't listed: the first instance's, before any bad pin.

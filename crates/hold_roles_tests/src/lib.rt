@@ -10,4 +10,6 @@ mod faults;
 #[cfg(test)]
 mod library;
 #[cfg(test)]
+mod limits;
+#[cfg(test)]
 mod roots;
