@@ -11,7 +11,7 @@ use Rattle.hold_sdflex.specs.inner.Waiting.{atom_left}
 abbrev pub shift : ℕ → Option ℕ → Option ℕ
 shift k o = option_map (λ n. k + n) o
 
-shift-suc : (k : ℕ) (o : Option ℕ) → shift k (option_map suc o) ≡ shift (k + 1) o
+pub shift-suc : (k : ℕ) (o : Option ℕ) → shift k (option_map suc o) ≡ shift (k + 1) o
 shift-suc k None = refl
 shift-suc k (Some n) = ap Some (omega arith)
 

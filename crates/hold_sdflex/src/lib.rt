@@ -2,13 +2,17 @@
 //! in which each opening parenthesis knows the place of its closing one.
 #![tactic(auto)]
 
+mod backslash;
 mod cut;
 mod front;
 mod groups;
+mod items;
 mod pair;
 mod piece;
 #[cfg(test)]
 mod tests;
 
+pub use backslash::{last_bare, plain_name};
 pub use groups::{GroupFault, Groups, read_groups};
+pub use items::{Atom, Group, Item, Items};
 pub use piece::{Form, Piece};

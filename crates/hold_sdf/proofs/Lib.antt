@@ -1,0 +1,9 @@
+pub mod Numerals
+pub mod Numbers
+pub mod KindLemmas
+pub mod PowerLemmas
+pub mod ShapeLemmas
+pub mod SpecLemmas
+pub mod HullLemmas
+pub mod AddLemmas
+pub mod RangeLemmas

@@ -1,0 +1,10 @@
+use Rattle.std.proofs.Common.{◌≡◌, length}
+use Rattle.hold_sdflex.specs.Items.{items_in}
+use Rattle.hold_sdf.specs.Shapes.{are_all_delays}
+use Rattle.hold_sdf.proofs.value.are_all_delays.Given as goal
+
+abbrev pub invariant-loop-rest : goal.invariant-loop-rest
+invariant-loop-rest l = are_all_delays (items_in l.rest) ≡ are_all_delays (items_in l.fn.inner)
+
+abbrev pub decreases-loop-rest : goal.decreases-loop-rest
+decreases-loop-rest l = length (items_in l.rest)

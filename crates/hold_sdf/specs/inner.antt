@@ -1,0 +1,4 @@
+pub mod Adds
+pub mod Hulls
+pub mod Steps
+pub mod Shown
