@@ -1,6 +1,6 @@
 -- The times in the entries of a text are in range.
-use Rattle.std.proofs.Common.{◌≡◌, ℕ, ◌≤◌, Bool, true, false, List, [], ◌∷◌, ◌++◌, Option, Some, None, refl, sym, ap, ◌∙◌, subst, arith, cond}
-use Rattle.std.specs.Prelude.{Result, Ok, Err, ℤ, pos, neg_ℤ, ◌≤ℤ◌, IfSome, if◌then◌else◌, option_map, not, ◌&&◌, nat_le, int_lt}
+use Rattle.std.proofs.Common.{◌≡◌, ℕ, ◌≤◌, Bool, true, false, List, [], ◌∷◌, Option, Some, None, refl, sym, ap, ◌∙◌, subst, arith, cond}
+use Rattle.std.specs.Prelude.{Result, Ok, Err, ℤ, IfSome, if◌then◌else◌, not, ◌&&◌, nat_le, int_lt}
 use Rattle.std.specs.List.{AllByRecursion, fold}
 use Rattle.std.proofs.lemmas.Int.{ints, int_min_is, int_max_is}
 use Rattle.hold_base.specs.declared.time.Interval.{Interval}
@@ -21,8 +21,7 @@ use Rattle.hold_sdf.specs.declared.keyword.PathKind.{PathKind}
 use Rattle.hold_sdf.specs.declared.keyword.PathKind.TheVariants.{IoPath as IoPathKind, Cond, CondElse, Interconnect, LeftOut as PathLeftOut, Other as NoPath}
 use Rattle.hold_sdf.specs.declared.keyword.CheckKind.{CheckKind}
 use Rattle.hold_sdf.specs.declared.keyword.CheckKind.TheVariants.{Setup, Hold, SetupHold, ReadPast as CheckPast, Other as NoCheck}
-use Rattle.hold_decimal.specs.Rounding.{IsTime}
-use Rattle.hold_sdf.specs.Times.{numeral_of, magnitude_of, denominator_of, floor_of, ceiling_of, interval_of, numeral_time, time_of}
+use Rattle.hold_sdf.specs.Times.{numeral_of, magnitude_of, denominator_of, interval_of, numeral_time, time_of}
 use Rattle.hold_sdf.specs.Keywords.{is_word, timing_kind, delay_kind, path_kind, check_kind, file_words, cell_words, path_words}
 use Rattle.hold_sdf.specs.Shapes.{keyword_in, is_empty, are_groups, last_of, IoPath, iopath_of, wire_of, retain_among, Check, check_of, has_star, head_of}
 use Rattle.hold_sdf.specs.Settings.{Settings, settings_of, nothing_set}
