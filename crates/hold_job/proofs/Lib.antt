@@ -1,0 +1,10 @@
+pub mod NameSetLemmas
+pub mod Items
+pub mod KeyLemmas
+pub mod Sets
+pub mod Again
+pub mod NumberLemmas
+pub mod FileLemmas
+pub mod Once
+pub mod PartLemmas
+pub mod Given

@@ -1,0 +1,7 @@
+use Rattle.std.proofs.Common.{◌≡◌, drop}
+use Rattle.hold_job.specs.Doubles.{of_each, checks_once}
+use Rattle.hold_job.proofs.doubles.test_checks.Given as goal
+
+-- what is left leads to what the whole does
+abbrev pub invariant-loop-place : goal.invariant-loop-place
+invariant-loop-place l = of_each checks_once l.place (drop l.place l.types) ≡ of_each checks_once 0 l.types

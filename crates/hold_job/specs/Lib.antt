@@ -1,0 +1,12 @@
+pub mod Limits
+pub mod Outcome
+pub mod Keys
+pub mod Lists
+pub mod Names
+pub mod Numbers
+pub mod CellTypes
+pub mod Entries
+pub mod Doubles
+pub mod FileNames
+pub mod Job
+pub mod inner
