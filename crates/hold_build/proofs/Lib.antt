@@ -1,0 +1,15 @@
+pub mod ListingLemmas
+pub mod OverLemmas
+pub mod InstLemmas
+pub mod SortLemmas
+pub mod SinkLemmas
+pub mod WireLemmas
+pub mod CellArcLemmas
+pub mod ArcLemmas
+pub mod NameLemmas
+pub mod PinTableLemmas
+pub mod NamedLemmas
+pub mod CountLemmas
+pub mod EntryLemmas
+pub mod FaultLemmas
+pub mod PinLemmas
