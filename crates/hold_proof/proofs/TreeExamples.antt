@@ -33,13 +33,15 @@ pub no_sites-closes : (problem : Problem) (paths : List Listed) →
     Closes problem [] paths (record { within = record { low = []; high = [] }; below = Some 0 }) (plain 1)
 no_sites-closes problem paths = record {
   fit = record {
+    orderly = record {
+      paths_rise = λ k below. absurd (omega arith);
+      paths_times = All-nil _;
+      sites_rise = λ k below. absurd (omega arith);
+      sites_times = All-nil _;
+      weight = omega arith;
+    };
     paths_checked = All-nil _;
-    paths_rise = λ k below. absurd (omega arith);
-    paths_times = All-nil _;
     sites_there = All-nil _;
-    sites_rise = λ k below. absurd (omega arith);
-    sites_times = All-nil _;
-    weight = omega arith;
   };
   beta = pos 0;
   least = record { attained = ([], tt, omega (arith, ints)); bound = λ counts point. omega (arith, ints) };

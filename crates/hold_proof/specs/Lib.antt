@@ -4,4 +4,5 @@ pub mod InForce
 pub mod Closing
 pub mod Proving
 pub mod Least
+pub mod Spellable
 pub mod inner

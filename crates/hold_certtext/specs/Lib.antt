@@ -1,0 +1,4 @@
+pub mod Lines
+pub mod CertificateText
+pub mod PlanText
+pub mod inner
