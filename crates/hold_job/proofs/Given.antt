@@ -1,50 +1,53 @@
--- What a text gives, by what its tree gives part by part.
-use Rattle.std.proofs.Common.{◌≡◌, ◌⊎◌, inl, inr, ℕ, List, sym, ap, subst, ◌∙◌}
-use Rattle.std.specs.Prelude.{Ok, Err, Some, None}
+-- What a text gives is one job or one fault.
+use Rattle.std.proofs.Common.{◌≡◌, ℕ, List, Some, None, refl, ap, sym, subst, ◌∙◌, ◌⊎◌, inl, inr}
+use Rattle.std.specs.Prelude.{Result, Ok, Err}
+use Rattle.std.proofs.lemmas.Option.{same_Some}
 use Rattle.toml.specs.Data.{Members}
-use Rattle.toml.specs.Parse.{parse_document}
-use Rattle.hold_base.specs.Answers.{Answers, IfStopFault}
 use Rattle.hold_base.specs.declared.stop.Stop.{Stop}
 use Rattle.hold_base.specs.declared.stop.Stop.TheVariants.{Memory, Fault}
-use Rattle.hold_job.specs.declared.fault.JobFault.{JobFault}
+use Rattle.hold_base.specs.Answers.{Answers, IfStopFault}
 use Rattle.hold_job.specs.declared.job.Job.{Job}
+use Rattle.hold_job.specs.declared.fault.JobFault.{JobFault}
+use Rattle.hold_job.specs.declared.fault.JobFault.TheVariants.{Toml}
 use Rattle.hold_job.specs.Outcome.{Outcome}
-use Rattle.hold_job.specs.Job.{top, at_top, job_in, job_of, IsTree, HasNoTree, Gives}
+use Rattle.hold_job.specs.Job.{job_in, job_of, at_top, top, IsTree, HasNoTree, Gives}
 use Rattle.hold_job.specs.inner.Parts.{job_by_parts}
 use Rattle.hold_job.specs.inner.Told.{IsToldAtTop}
 use Rattle.hold_job.proofs.PartLemmas.{job_by_parts_is}
 
--- a text with a tree gives what the tree gives
-pub tree_given : (own text : List ℕ) (tree : Members) → IsTree text tree → (outcome : Outcome Job) → Gives own text outcome → outcome ≡ job_of own tree
-tree_given own text tree is outcome (inl h) = absurd is.1 (h.0 is.0)
+-- what a tree gives is what its text gives
+pub given_by_tree : (own text : List ℕ) (tree : Members) (outcome : Outcome Job) → IsTree text tree → at_top (job_by_parts own tree) ≡ outcome → Gives own text outcome
+given_by_tree own text tree outcome is e = inr (tree, is, sym e ∙ ap at_top (job_by_parts_is own tree))
+
+-- and nothing else is
+pub given_one : (own text : List ℕ) (tree : Members) (outcome : Outcome Job) → IsTree text tree → Gives own text outcome → outcome ≡ at_top (job_by_parts own tree)
+given_one own text tree outcome is (inl (none, e)) = absurd (never (sym is.1 ∙ none is.0))
   where
-    absurd : parse_document text ≡ Some tree → parse_document text ≡ None → outcome ≡ job_of own tree
-    absurd some none = cc
-tree_given own text tree is outcome (inr (other, has, e)) = same is.1 has.1 e
+    never : Some tree ≡ None → ⊥
+    never h = cc
+given_one own text tree outcome is (inr (other, known, e)) =
+    let same : other ≡ tree = same_Some other tree (sym known.1 ∙ is.1) in
+    e ∙ ap (λ t. job_of own t) same ∙ ap at_top (sym (job_by_parts_is own tree))
+
+-- a text without a tree gives that fault alone
+pub given_none : (own text : List ℕ) (outcome : Outcome Job) → HasNoTree text → Gives own text outcome → outcome ≡ Err Toml
+given_none own text outcome no_tree (inl (none, e)) = e
+given_none own text outcome no_tree (inr (tree, is, e)) = absurd (never (sym is.1 ∙ no_tree is.0))
   where
-    same : parse_document text ≡ Some tree → parse_document text ≡ Some other → outcome ≡ job_of own other → outcome ≡ job_of own tree
-    same a b e = let one : other ≡ tree = cc in e ∙ ap (job_of own) one
+    never : Some tree ≡ None → ⊥
+    never h = cc
 
--- told at the top, what the parts give is what the keys give
-told : (own : List ℕ) (tree : Members) (outcome : Outcome Job) → job_by_parts own tree ≡ outcome → job_of own tree ≡ at_top outcome
-told own tree outcome e = ap at_top (sym (job_by_parts_is own tree) ∙ e)
+-- a fault of a tree, as it is told of a job
+pub told_fault : (own text : List ℕ) (tree : Members) (stop told : Stop JobFault) → IsTree text tree → Answers {X = Job} (Err stop) (job_by_parts own tree) → IsToldAtTop stop told
+    → IfStopFault told (λ fault. Gives own text (Err fault))
+told_fault own text tree Memory told is answers above = rw above tt
+told_fault own text tree (Fault fault) Memory is answers above = tt
+told_fault own text tree (Fault fault) (Fault other) is answers above =
+    given_by_tree own text tree (Err other) is (ap at_top answers ∙ ap Err (sym above))
 
-pub gives_job : (own text : List ℕ) (tree : Members) (job : Job) → IsTree text tree → job_by_parts own tree ≡ Ok job → Gives own text (Ok job)
-gives_job own text tree job is e = inr (tree, is, sym (told own tree (Ok job) e))
-
-pub given_job : (own text : List ℕ) (tree : Members) (job : Job) → IsTree text tree → job_by_parts own tree ≡ Ok job
-    → (outcome : Outcome Job) → Gives own text outcome → outcome ≡ Ok job
-given_job own text tree job is e outcome given = tree_given own text tree is outcome given ∙ told own tree (Ok job) e
-
-pub gives_fault : (own text : List ℕ) (tree : Members) (stop as_told : Stop JobFault) → IsTree text tree → Answers {X = Job} (Err stop) (job_by_parts own tree)
-    → IsToldAtTop stop as_told → IfStopFault as_told (λ fault. Gives own text (Err fault))
-gives_fault own text tree Memory as_told is answered at_the_top = subst (λ (s : Stop JobFault). IfStopFault s (λ fault. Gives own text (Err fault))) (sym at_the_top) tt
-gives_fault own text tree (Fault fault) Memory is answered at_the_top = tt
-gives_fault own text tree (Fault fault) (Fault f) is answered at_the_top = inr (tree, is, ap Err at_the_top ∙ sym (told own tree (Err fault) answered))
-
-pub given_fault : (own text : List ℕ) (tree : Members) (stop as_told : Stop JobFault) → IsTree text tree → Answers {X = Job} (Err stop) (job_by_parts own tree)
-    → IsToldAtTop stop as_told → (outcome : Outcome Job) → Gives own text outcome → Answers {X = Job} {F = JobFault} (Err as_told) outcome
-given_fault own text tree Memory as_told is answered at_the_top outcome given = subst (λ (s : Stop JobFault). Answers {X = Job} {F = JobFault} (Err s) outcome) (sym at_the_top) tt
-given_fault own text tree (Fault fault) Memory is answered at_the_top outcome given = tt
-given_fault own text tree (Fault fault) (Fault f) is answered at_the_top outcome given =
-    tree_given own text tree is outcome given ∙ (told own tree (Err fault) answered ∙ ap Err (sym at_the_top))
+pub told_given : (own text : List ℕ) (tree : Members) (stop told : Stop JobFault) → IsTree text tree → Answers {X = Job} (Err stop) (job_by_parts own tree) → IsToldAtTop stop told
+    → (outcome : Outcome Job) → Gives own text outcome → Answers {X = Job} (Err told) outcome
+told_given own text tree Memory told is answers above outcome given = rw above tt
+told_given own text tree (Fault fault) Memory is answers above outcome given = tt
+told_given own text tree (Fault fault) (Fault other) is answers above outcome given =
+    given_one own text tree outcome is given ∙ ap at_top answers ∙ ap Err (sym above)

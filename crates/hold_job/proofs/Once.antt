@@ -25,11 +25,11 @@ second_none key (Some n) e = cc
 
 -- what is asked of a job before it is made
 pub record NoDoubles (types : List ListedType) (kinds : List Kind) (clocks : List Clock) : Type 0 where
-  pub type_names : once (codes "name") (map (λ t. t.cell.name) types) ≡ Ok tt
-  pub kind_types : once (codes "type") (map (λ k. k.cell) kinds) ≡ Ok tt
-  pub clock_insts : once (codes "inst") (map (λ c. c.inst) clocks) ≡ Ok tt
-  pub arc_ends : of_each arcs_once 0 types ≡ Ok tt
-  pub check_pins : of_each checks_once 0 types ≡ Ok tt
+  pub by_name : once (codes "name") (map (λ t. t.cell.name) types) ≡ Ok tt
+  pub by_type : once (codes "type") (map (λ k. k.cell) kinds) ≡ Ok tt
+  pub by_inst : once (codes "inst") (map (λ c. c.inst) clocks) ≡ Ok tt
+  pub by_ends : of_each arcs_once 0 types ≡ Ok tt
+  pub by_pin : of_each checks_once 0 types ≡ Ok tt
 
 pub no_doubles_parts : (types : List ListedType) (kinds : List Kind) (clocks : List Clock) → no_doubles types kinds clocks ≡ Ok tt → NoDoubles types kinds clocks
 unfolding no_doubles
@@ -39,11 +39,11 @@ no_doubles_parts types kinds clocks e =
     let (c, three, rest3) = led_on (at (codes "clock") (once (codes "inst") (map (λ (k : Clock). k.inst) clocks))) _ tt rest2 in
     let (d, four, five) = led_on (at (codes "type") (of_each arcs_once 0 types)) _ tt rest3 in
     record {
-      type_names = at_Ok (codes "type") _ _ one;
-      kind_types = at_Ok (codes "kind") _ _ two;
-      clock_insts = at_Ok (codes "clock") _ _ three;
-      arc_ends = at_Ok (codes "type") _ _ four;
-      check_pins = at_Ok (codes "type") _ _ five;
+      by_name = at_Ok (codes "type") _ _ one;
+      by_type = at_Ok (codes "kind") _ _ two;
+      by_inst = at_Ok (codes "clock") _ _ three;
+      by_ends = at_Ok (codes "type") _ _ four;
+      by_pin = at_Ok (codes "type") _ _ five;
     }
 
 -- names that differ by one count differ by the other
@@ -64,5 +64,5 @@ names_of_cells (t ∷ ts) = ap (λ ns. t.cell.name ∷ ns) (names_of_cells ts)
 -- so the types make a library
 pub cells_differ : (types : List ListedType) (kinds : List Kind) (clocks : List Clock) → no_doubles types kinds clocks ≡ Ok tt → first_double (cells_in types) ≡ None
 cells_differ types kinds clocks e =
-    let none = second_none (codes "name") (again bytes_eq [] (map (λ (t : ListedType). t.cell.name) types)) (no_doubles_parts types kinds clocks e).type_names in
+    let none = second_none (codes "name") (again bytes_eq [] (map (λ (t : ListedType). t.cell.name) types)) (no_doubles_parts types kinds clocks e).by_name in
     again_repeat 0 [] (type_names (cells_in types)) (ap (again bytes_eq []) (sym (names_of_cells types)) ∙ none)

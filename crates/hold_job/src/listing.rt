@@ -22,7 +22,7 @@ use crate::kinds::KindForm;
 use crate::limits;
 use crate::list::{Every, EveryWithin, none};
 use crate::listed_type::ListedType;
-use crate::number::Span;
+use crate::number::spans;
 use hold_base::{Interval, List, Stop, limits as texts};
 use hold_netlist::Kind;
 use std::alloc::Global;
@@ -47,14 +47,7 @@ fn arrival_at(
 ) -> Result<Option<List<Interval>>, Stop<JobFault>>
     ensures { Answers result (if_any (spans earliest (length corners.now)) (codes "arrival") (table_view table.now)) }
 {
-    let count = corners.as_slice().len();
-    let form = EveryWithin {
-        least: count,
-        most: count,
-        form: Span {
-            least: -texts::TIME,
-        },
-    };
+    let form = spans(-texts::TIME, corners.as_slice().len());
     if_any(alloc, &form, table, "arrival")
 }
 
