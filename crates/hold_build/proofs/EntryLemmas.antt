@@ -22,7 +22,7 @@ use Rattle.hold_build.specs.Faults.{IsRegisterNamed, IsUnknownClock, IsUnknownKe
 use Rattle.hold_build.specs.Listing.{ListsEach}
 use Rattle.hold_build.specs.NetlistGraph.{IsKept, IsKeptBy, IsNamedInst}
 use Rattle.hold_build.specs.inner.Names.{AreFlags, IsKeptBefore, IsMarked}
-use Rattle.hold_build.proofs.ListingLemmas.{at-Contains, Contains-at, ListsEach-nil, ListsEach-push, ListsEach-same}
+use Rattle.hold_build.proofs.ListingLemmas.{at-Contains, Contains-at, ListsEach-push, ListsEach-same}
 
 -- ---- registers
 
@@ -59,9 +59,6 @@ entry-same xs n x y within here at = let there : Some x ≡ Some y = ap Some her
 pub clock-known : (b : Binding) (job : Job) (n : ℕ) (clock : Clock) → n < length job.clocks → clock ≡ get_or job.clocks n clock → IsRegisterNamed b clock.inst → IsUnknownClock b job n → ⊥
 clock-known b job n clock within here register h =
     h.unknown (subst (λ (x : Clock). IsRegisterNamed b x.inst) (entry-same job.clocks n clock h.entry within here h.at) register)
-
-pub clock-unknown : (b : Binding) (job : Job) (n : ℕ) (clock : Clock) → n < length job.clocks → clock ≡ get_or job.clocks n clock → (IsRegisterNamed b clock.inst → ⊥) → IsUnknownClock b job n
-clock-unknown b job n clock within here never = record { entry = clock; at = slice_get-get_or job.clocks n clock within ∙ ap Some (sym here); unknown = never }
 
 pub clocks-past : (b : Binding) (job : Job) (n k : ℕ) → length job.clocks ≤ n → IsUnknownClock b job k → k < n
 clocks-past b job n k past h = let inside = slice_get_within job.clocks k h.entry h.at in omega arith
@@ -101,9 +98,6 @@ pub flags-known : (pins : List PinNo) (flags : List Bool) (pin : PinNo) (seen : 
 flags-known pins flags pin seen within read is_set h = inl ((h.tells pin).0 (get_or_default flags pin.0 false seen within ∙ sym read ∙ is_set), refl)
 
 -- ---- the pins of the entries so far
-
-pub kept-none : (b : Binding) (job : Job) → ListsEach (IsKeptBefore b job 0) []
-kept-none b job = ListsEach-nil (IsKeptBefore b job 0) (λ p h. omega (arith, h.before))
 
 pub kept-pin-within : (b : Binding) (keep : Keep) (pin : PinNo) → ((p : PinNo) → IsKeptBy b.netlist.insts keep p ↔ (Some pin ≡ Some p)) → pin.0 < pins_of b.netlist
 kept-pin-within b keep pin named =

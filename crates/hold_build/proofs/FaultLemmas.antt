@@ -1,37 +1,26 @@
 -- Faults: each is the only one of its netlist and job, but that any cycle will do; and what a caller learns from an answer.
-use Rattle.std.proofs.Common.{◌≡◌, ℕ, inl, inr, List, [], ◌∷◌, refl, sym, ap, subst, ◌∙◌, arith}
+use Rattle.std.proofs.Common.{◌≡◌, ℕ, inl, inr, List, [], ◌∷◌, sym, ap, ◌∙◌, arith}
 use Rattle.std.specs.Prelude.{Result, Ok, Err, OnOk, Contains, codes}
 use Rattle.hold_base.proofs.Orders.{le-never}
 use Rattle.hold_base.specs.Answers.{Answers, IfFault}
 use Rattle.hold_base.specs.declared.number.PinNo.{PinNo}
 use Rattle.hold_base.specs.declared.stop.Stop.{Stop}
 use Rattle.hold_base.specs.declared.stop.Stop.TheVariants.{Memory, Fault}
-use Rattle.hold_base.specs.declared.stop.What.TheVariants.{Arcs}
 use Rattle.hold_graph.specs.declared.cycle.Cycle.{Cycle}
 use Rattle.hold_graph.specs.declared.graph.Arc.{Arc}
 use Rattle.hold_graph.specs.Cycles.{GoesRound, IsCycle}
 use Rattle.hold_graph.specs.Path.{EachNext, HasArc, last_pin}
 use Rattle.hold_job.specs.declared.job.Job.{Job}
 use Rattle.hold_roles.specs.Binding.{Binding}
-use Rattle.hold_roles.specs.Faults.{HasNone, IsFirst}
+use Rattle.hold_roles.specs.Faults.{IsFirst}
 use Rattle.hold_build.specs.declared.fault.BuildFault.{BuildFault}
 use Rattle.hold_build.specs.declared.fault.BuildFault.TheVariants.{Unknown, Limit, Cycle as OnCycle}
 use Rattle.hold_build.specs.Arcs.{IsArc}
-use Rattle.hold_build.specs.Faults.{CanBeListed, HasCycle, HasKnownEntries, HasNoFault, HasTooManyArcs, IsCycleFault, IsFault, IsFirstUnknown, IsListFault, IsOnCycle, IsUnknownClock, IsUnknownKeep, entry_path}
+use Rattle.hold_build.specs.Faults.{CanBeListed, HasCycle, HasKnownEntries, HasNoFault, IsCycleFault, IsFault, IsFirstUnknown, IsListFault, IsOnCycle, IsUnknownClock, IsUnknownKeep, entry_path}
 use Rattle.hold_build.specs.Listing.{ListsEach}
-use Rattle.hold_build.specs.inner.Names.{IsEntryFault}
 use Rattle.std.proofs.lemmas.List.Elements.{All-contains}
 
 -- ---- faults of entries and of the limit
-
-pub clock-fault : (b : Binding) (job : Job) (fault : BuildFault) → IsEntryFault (IsUnknownClock b job) (codes "clock") fault → IsListFault b job fault
-clock-fault b job fault h = subst (IsListFault b job) (sym h.is) (inl (record { entry = h.entry; first = h.first; said = h.said }))
-
-pub keep-fault : (b : Binding) (job : Job) → HasNone (IsUnknownClock b job) → (fault : BuildFault) → IsEntryFault (IsUnknownKeep b job) (codes "keep") fault → IsListFault b job fault
-keep-fault b job clocks fault h = subst (IsListFault b job) (sym h.is) (inr (record { clocks = clocks; entry = h.entry; first = h.first; said = h.said }))
-
-pub limit-fault : (b : Binding) (job : Job) → HasKnownEntries b job → (fault : BuildFault) → (fault ≡ Limit Arcs) × HasTooManyArcs b → IsListFault b job fault
-limit-fault b job known fault h = subst (IsListFault b job) (sym h.0) (record { known = known; many = h.1; of = refl })
 
 -- ---- one fault at most
 

@@ -1,10 +1,9 @@
 -- Tables of the first places of names, made name by name.
 use Rattle.std.proofs.Common.{◌≡◌, ℕ, ◌+◌, List, [], ◌∷◌, ◌++◌, Bool, true, false, cond, refl, sym, ap, ◌∙◌, bytes_eq, is_none, append_assoc}
 use Rattle.std.specs.Prelude.{if◌then◌else◌, Some}
-use Rattle.std.proofs.lemmas.List.{append-nil}
 use Rattle.hold_base.proofs.Bytes.{bytes_eq-same}
 use Rattle.hold_netlist.specs.NameTable.{number_of}
-use Rattle.hold_roles.specs.inner.NamePlaces.{first_at, TellsPlaces}
+use Rattle.hold_roles.specs.inner.NamePlaces.{first_at}
 
 -- names with their places, the first of which is `place`
 abbrev pub numbered_from : ℕ → List (List ℕ) → List (List ℕ × ℕ)
@@ -21,9 +20,6 @@ number_of-numbered name place (n ∷ ns) = ap (λ rest. cond (bytes_eq name n) (
 
 pub named-none : (all : List (List ℕ)) → IsNamedUpTo all all 0 []
 named-none all = record { each = λ name. number_of-numbered name 0 all }
-
-pub named-all : (all : List (List ℕ)) (place : ℕ) (table : List (List ℕ × ℕ)) → IsNamedUpTo all [] place table → TellsPlaces all table
-named-all all place table h = record { each = λ name. ap (number_of name) (sym (append-nil table)) ∙ h.each name }
 
 -- a pair of another name changes nothing
 number_of-other : (name n : List ℕ) (p : ℕ) (table rest : List (List ℕ × ℕ)) → bytes_eq name n ≡ false → number_of name (table ++ (n, p) ∷ rest) ≡ number_of name (table ++ rest)

@@ -12,13 +12,10 @@ use Rattle.hold_roles.specs.Roots.{IsRoot}
 use Rattle.hold_build.specs.declared.sinks.Sink.{Sink}
 use Rattle.hold_build.specs.Listing.{ListsEach}
 use Rattle.hold_build.specs.inner.WireArcs.{HasDifferentPins, IsSinkArc}
-use Rattle.hold_build.proofs.ListingLemmas.{ListsEach-nil, ListsEach-push, ListsEach-same}
+use Rattle.hold_build.proofs.ListingLemmas.{ListsEach-push, ListsEach-same}
 
 abbrev wire_arc : PinNo → PinNo → Arc
 wire_arc from to = record { from = from; to = to; wire = true }
-
-pub wires-none : (b : Binding) (sinks : List Sink) → ListsEach (IsSinkArc b sinks 0) []
-wires-none b sinks = ListsEach-nil (IsSinkArc b sinks 0) (λ arc h. omega (arith, h.before))
 
 module _ (b : Binding) (sinks : List Sink) (differ : HasDifferentPins sinks) (n : ℕ) (s : Sink) (at : slice_get sinks n ≡ Some s) where
   more : (arc : Arc) → IsSinkArc b sinks n arc → IsSinkArc b sinks (n + 1) arc

@@ -131,9 +131,9 @@ reads-begins s lines h = begins-at s.stage s lines h.are h.at h.sound
 same-lines : (text : List ℕ) (a b : Certificate) → IsTextOf text a → IsTextOf text b → certificate_lines a ≡ certificate_lines b
 same-lines text a b one other =
     text_of-same (certificate_lines a) (certificate_lines b)
-      (certificate-are_lines (certificate_lines a) (a, record { spellable = one.spellable; in_range = one.in_range; is = refl }))
-      (certificate-are_lines (certificate_lines b) (b, record { spellable = other.spellable; in_range = other.in_range; is = refl }))
-      (sym one.is ∙ other.is)
+    (certificate-are_lines (certificate_lines a) (a, record { spellable = one.spellable; in_range = one.in_range; is = refl }))
+    (certificate-are_lines (certificate_lines b) (b, record { spellable = other.spellable; in_range = other.in_range; is = refl }))
+    (sym one.is ∙ other.is)
 
 certificate-same : (x y : Certificate) → x.claim ≡ y.claim → x.paths ≡ y.paths → x.tree ≡ y.tree → x ≡ y
 certificate-same x y claim paths tree =

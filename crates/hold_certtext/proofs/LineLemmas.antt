@@ -1,8 +1,7 @@
 -- The first line of a text.
-use Rattle.std.proofs.Common.{◌≡◌, ◌≢◌, ℕ, zero, suc, ◌+◌, ◌<◌, List, [], ◌∷◌, ◌++◌, Bool, true, false, not, cond, take, drop, length, refl, sym, ap, subst, ◌∙◌, arith}
+use Rattle.std.proofs.Common.{◌≡◌, ◌≢◌, ℕ, zero, suc, ◌+◌, List, [], ◌∷◌, ◌++◌, Bool, true, false, not, cond, take, drop, length, refl, sym, ap, subst, ◌∙◌, arith}
 use Rattle.std.specs.Prelude.{◌==◌}
 use Rattle.std.proofs.lemmas.Bool.Decides.{nat_tests}
-use Rattle.std.proofs.lemmas.List.{length-append}
 use Rattle.hold_text.specs.Blanks.{newline, line_len}
 use Rattle.hold_certtext.specs.Lines.{IsLine, ended}
 
@@ -55,13 +54,6 @@ line-ended (b ∷ bs) rest n is back some = by (b == newline) refl is (λ r here
         let next : n ≡ suc (line_len bs) = omega arith in
         ap (λ (l : List ℕ). b ∷ l) (others rest (ap (λ (m : ℕ). drop m (b ∷ bs)) (sym next) ∙ back) some)
         ∙ ap (λ (m : ℕ). ended (take m (b ∷ bs)) ++ drop 1 rest) (sym next)
-
--- a line takes a byte at least
-pub fewer-behind : (rest line behind : List ℕ) → rest ≡ ended line ++ behind → length behind < length rest
-fewer-behind rest line behind split =
-    let whole = length-append (ended line) behind in
-    let one = length-append line (newline ∷ []) in
-    omega (arith, ap length split, whole, one)
 
 pub none-left : (rest : List ℕ) → (length rest == 0) ≡ true → rest ≡ []
 none-left [] h = refl

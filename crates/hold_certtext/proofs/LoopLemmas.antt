@@ -37,12 +37,6 @@ with_pins-push : (front : List PinNo) (pin : PinNo) (found : Option (List PinNo)
 with_pins-push front pin None = refl
 with_pins-push front pin (Some pins) = ap (λ (ps : List PinNo). Some ps) (append_assoc front (pin ∷ []) pins)
 
--- one pin more
-pub with_pins-step : (front : List PinNo) (words left : List (List ℕ)) (pin : ℕ) → number_in 4294967295 words ≡ Some (pin, left)
-    → with_pins (front ++ record { 0 = pin } ∷ []) (pins_in left) ≡ with_pins front (pins_in words)
-with_pins-step front words left pin h =
-    with_pins-push front (record { 0 = pin }) (pins_in left) ∙ ap (with_pins front) (sym (pins_in-step words left pin h))
-
 -- a word that is no pin
 pub with_pins-None : (front : List PinNo) (words : List (List ℕ)) → is_nil words ≡ false → number_in 4294967295 words ≡ None → with_pins front (pins_in words) ≡ None
 with_pins-None front [] more h = absurd cc
@@ -138,11 +132,6 @@ terms_in-stop {X = X} number letter bounds (first ∷ a ∷ b ∷ words) left h 
     by true more e = let never : true ≡ false = ap (λ (x : Bool × List (List ℕ)). x.0) e in cc
     by false more e = ap (λ (x : Bool × List (List ℕ)). Some ([], bounds.weight, x.1)) e
 
--- what a letter is followed by
-abbrev behind_letter : {X : Type 0} → (ℕ → X) → List ℕ → Bounds → List (List ℕ) → Option (Terms X)
-behind_letter number letter bounds words =
-    term_in bounds words >>= (λ term. terms_in number letter (after bounds term.0) term.1 >>= (λ rest. Some (with_term (number term.0.0, term.0.1) rest)))
-
 took : (letter first : List ℕ) (words left : List (List ℕ)) → takes letter (first ∷ words) ≡ (true, left) → (bytes_eq first letter ≡ true) × (words ≡ left)
 took letter first words left h = by (bytes_eq first letter) h
   where
@@ -184,12 +173,3 @@ pub with_terms-step : {X : Type 0} (number : ℕ → X) (letter : List ℕ) (fro
 with_terms-step number letter front bounds words behind left term h one =
     with_terms-push front (number term.0, term.1) (terms_in number letter (after bounds term) left)
     ∙ ap (with_terms front) (sym (terms_in-step number letter bounds words behind left term h one))
-
-pub with_terms-None : {X : Type 0} (number : ℕ → X) (letter : List ℕ) (front : List (X × ℕ)) (bounds : Bounds) (words behind : List (List ℕ))
-    → takes letter words ≡ (true, behind) → term_in bounds behind ≡ None → with_terms front (terms_in number letter bounds words) ≡ None
-with_terms-None number letter front bounds words behind h none = ap (with_terms front) (terms_in-None number letter bounds words behind h none)
-
-pub with_terms-stop : {X : Type 0} (number : ℕ → X) (letter : List ℕ) (front : List (X × ℕ)) (bounds : Bounds) (words left : List (List ℕ))
-    → takes letter words ≡ (false, left) → with_terms front (terms_in number letter bounds words) ≡ Some (front, bounds.weight, left)
-with_terms-stop number letter front bounds words left h =
-    ap (with_terms front) (terms_in-stop number letter bounds words left h) ∙ ap (λ ts. Some (ts, bounds.weight, left)) (append-nil front)

@@ -282,7 +282,7 @@ plan-whole text rest s number h whole none = record {
 same-lines : (text : List ℕ) (a b : List PlanLine) → IsPlanOf text a → IsPlanOf text b → plan_lines a ≡ plan_lines b
 same-lines text a b one other =
     text_of-same (plan_lines a) (plan_lines b) (plan-are_lines (plan_lines a) (a, one.numbered, one.pads, refl)) (plan-are_lines (plan_lines b) (b, other.numbered, other.pads, refl))
-      (sym one.is ∙ other.is)
+    (sym one.is ∙ other.is)
 
 -- a text is that of one plan
 pub plan-one : (text : List ℕ) (a b : List PlanLine) → IsPlanOf text a → IsPlanOf text b → a ≡ b

@@ -1,5 +1,5 @@
 -- What holds between two lines of a certificate's text.
-use Rattle.std.proofs.Common.{◌≡◌, ◌≢◌, ℕ, ◌+◌, ◌*◌, ◌≤◌, List, [], ◌∷◌, ◌++◌, Bool, true, false, cond, length, map, refl, sym, ap, subst, ◌∙◌, arith, append_assoc, append-nil}
+use Rattle.std.proofs.Common.{◌≡◌, ◌≢◌, ℕ, ◌+◌, ◌*◌, ◌≤◌, List, [], ◌∷◌, ◌++◌, Bool, true, false, cond, length, map, sym, ap, subst, ◌∙◌, arith, append_assoc, append-nil}
 use Rattle.std.specs.Prelude.{◌==◌, Option, None, Some}
 use Rattle.std.specs.List.{AllByRecursion}
 use Rattle.std.proofs.lemmas.List.{length-append, length-map}
@@ -19,7 +19,7 @@ use Rattle.hold_certtext.proofs.AcceptLaws.{certificates-accepted, IsWhole}
 use Rattle.hold_certtext.proofs.CertificateLaws.{whole-text, whole-tree, reads-begins}
 use Rattle.hold_certtext.proofs.KindLaws.{step-empty}
 use Rattle.hold_certtext.proofs.MachineLemmas.{run, run-push, text_of-push, text_of-long, stuck-first_bad, IsStuck, stuck-line, stuck-unended, stuck-behind}
-use Rattle.hold_certtext.proofs.ReadsLaws.{body, lines_at, IsAt, Reads, reads-start, reads-step}
+use Rattle.hold_certtext.proofs.ReadsLaws.{body, lines_at, IsAt, Reads, reads-step}
 
 -- these lines were taken, the rest of the text wasn't yet, and the number is that of the next line
 pub record Progress (text rest : List ℕ) (s : SoFar) (number : ℕ) : Type 0 where
@@ -29,9 +29,6 @@ pub record Progress (text rest : List ℕ) (s : SoFar) (number : ℕ) : Type 0 w
   pub reads : Reads s lines
   pub count : number ≡ length lines + 1
   pub some : AllByRecursion (λ (line : List ℕ). line ≢ []) lines
-
-pub progress-start : (text : List ℕ) → Progress text text start 1
-progress-start text = record { lines = []; split = refl; runs = refl; reads = reads-start; count = omega arith; some = tt }
 
 pub progress-step : (text rest line behind : List ℕ) (s next : SoFar) (number : ℕ) → Progress text rest s number → rest ≡ ended line ++ behind → step s line ≡ Some next
     → Progress text behind next (number + 1)

@@ -1,13 +1,12 @@
 -- What stands a second time, seen by one item after another.
-use Rattle.std.proofs.Common.{◌≡◌, ℕ, ◌+◌, List, [], ◌∷◌, ◌++◌, Bool, true, false, cond, not, length, map, drop, get_or, ◌<◌, Some, refl, ap, sym, ◌∙◌, bytes_eq}
-use Rattle.std.specs.Prelude.{◌&&◌, ◌||◌}
+use Rattle.std.proofs.Common.{◌≡◌, ℕ, ◌+◌, List, [], ◌∷◌, ◌++◌, Bool, true, false, cond, not, length, map, drop, get_or, ◌<◌, Some, refl, ap, sym, ◌∙◌}
+use Rattle.std.specs.Prelude.{◌||◌}
 use Rattle.std.specs.List.{list_any}
 use Rattle.std.proofs.lemmas.List.{map-append, length-map, length-append}
 use Rattle.std.proofs.lemmas.Bool.{not-true}
 use Rattle.hold_base.proofs.Bools.{not-false}
 use Rattle.hold_base.proofs.Lists.{drop-here}
 use Rattle.hold_job.specs.declared.ends.Ends.{Ends}
-use Rattle.hold_netlist.specs.Names.{is_among}
 use Rattle.hold_job.specs.declared.cell_times.TypeArc.{TypeArc}
 use Rattle.hold_job.specs.Doubles.{again, same_ends}
 use Rattle.hold_job.specs.inner.Ends.{ends_of, same_pair}
@@ -31,7 +30,7 @@ again_ends seen (a ∷ arcs) =
     ap (λ b. cond b (Some (length (map ends_of seen))) (again same_pair (map ends_of seen ++ ends_of a ∷ []) (map ends_of arcs))) (sym (any_ends a seen))
     ∙ ap (λ n. cond (list_any (same_ends a) seen) (Some n) (again same_pair (map ends_of seen ++ ends_of a ∷ []) (map ends_of arcs))) (length-map seen ends_of)
     ∙ ap (λ rest. cond (list_any (same_ends a) seen) (Some (length seen)) rest)
-      (ap (λ s. again same_pair s (map ends_of arcs)) (sym (map-append ends_of seen (a ∷ []))) ∙ again_ends (seen ++ a ∷ []) arcs)
+    (ap (λ s. again same_pair s (map ends_of arcs)) (sym (map-append ends_of seen (a ∷ []))) ∙ again_ends (seen ++ a ∷ []) arcs)
 
 -- the next arc, whose ends stand a second time
 pub ends_old : (arcs : List TypeArc) (place : ℕ) (arc : TypeArc) (seen : List Ends) (ends : Ends) (is_new : Bool) → place < length arcs → arc ≡ get_or arcs place arc

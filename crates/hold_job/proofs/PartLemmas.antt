@@ -1,13 +1,8 @@
 -- A job read part by part is the job read key by key.
-use Rattle.std.proofs.Common.{◌≡◌, ℕ, List, [], codes, length, map, refl, ap, ◌∙◌}
-use Rattle.std.specs.Prelude.{Ok, Err, Option, pos}
+use Rattle.std.proofs.Common.{◌≡◌, ℕ, List, [], codes, length, map, refl, ◌∙◌}
+use Rattle.std.specs.Prelude.{Ok, Err, pos}
 use Rattle.toml.specs.Data.{Members}
 use Rattle.hold_base.specs.Limits.{time_limit, chain_limit, types_limit, kinds_limit}
-use Rattle.hold_base.specs.declared.time.Interval.{Interval}
-use Rattle.hold_netlist.specs.declared.kind.Kind.{Kind}
-use Rattle.hold_job.specs.declared.corner.Corner.{Corner}
-use Rattle.hold_job.specs.declared.inst_times.Clock.{Clock}
-use Rattle.hold_job.specs.declared.inst_times.Keep.{Keep}
 use Rattle.hold_job.specs.declared.job.Job.{Job}
 use Rattle.hold_job.specs.declared.listed_type.ListedType.{ListedType}
 use Rattle.hold_job.specs.declared.files.Files.{Files}
@@ -92,14 +87,14 @@ job_by_parts_is own ms =
     same_next (known job_keys ms) _ _ (λ _.
     files_join ms (λ f. settings_in ms >>= λ s. listing_in ms >>= λ l. last_rows own f s l)
     ∙ same_next (required file_name (codes "netlist") ms) _ _ (λ netlist.
-      same_next (required file_name (codes "output") ms) _ _ (λ output.
-      same_next (required file_name (codes "certificate") ms) _ _ (λ certificate.
-      same_next (if_any file_name (codes "plan") ms) _ _ (λ plan.
-      let f : Files = record { netlist = netlist; output = output; certificate = certificate; plan = plan } in
-      settings_join ms (λ s. listing_in ms >>= λ l. last_rows own f s l)
-      ∙ same_next (required (number 1 time_limit) (codes "period") ms) _ _ (λ period.
-        same_next (or_else usual_chain (number 0 chain_limit) (codes "max_chain") ms) _ _ (λ max_chain.
-        same_next (or_else usual_nodes (number 1 nodes_limit) (codes "nodes") ms) _ _ (λ nodes.
-        same_next (or_else usual_searchers (number 1 searchers_limit) (codes "searchers") ms) _ _ (λ searchers.
-        same_next (or_else usual_order (number 0 order_limit) (codes "order") ms) _ _ (λ order.
-        listing_join ms (last_rows own f (record { period = pos period; max_chain = max_chain; nodes = nodes; searchers = searchers; order = order }))))))))))))
+    same_next (required file_name (codes "output") ms) _ _ (λ output.
+    same_next (required file_name (codes "certificate") ms) _ _ (λ certificate.
+    same_next (if_any file_name (codes "plan") ms) _ _ (λ plan.
+    let f : Files = record { netlist = netlist; output = output; certificate = certificate; plan = plan } in
+    settings_join ms (λ s. listing_in ms >>= λ l. last_rows own f s l)
+    ∙ same_next (required (number 1 time_limit) (codes "period") ms) _ _ (λ period.
+    same_next (or_else usual_chain (number 0 chain_limit) (codes "max_chain") ms) _ _ (λ max_chain.
+    same_next (or_else usual_nodes (number 1 nodes_limit) (codes "nodes") ms) _ _ (λ nodes.
+    same_next (or_else usual_searchers (number 1 searchers_limit) (codes "searchers") ms) _ _ (λ searchers.
+    same_next (or_else usual_order (number 0 order_limit) (codes "order") ms) _ _ (λ order.
+    listing_join ms (last_rows own f (record { period = pos period; max_chain = max_chain; nodes = nodes; searchers = searchers; order = order }))))))))))))

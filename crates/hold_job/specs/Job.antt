@@ -7,7 +7,7 @@
 -- job_of own ms: the job or the fault that the members give, so told.
 -- IsTree text tree: the text is TOML, and that is its tree. HasNoTree text: it isn't TOML.
 -- Gives own text outcome: what the text of the job file of that name gives. There is exactly one such job or fault at most.
-use Rattle.std.specs.Prelude.{◌≡◌, ℕ, pos, List, [], ◌∷◌, ◌⊎◌, length, map, flat_map, drop, codes, ◌^◌, Option, Some, None, Ok, Err, IsUtf8}
+use Rattle.std.specs.Prelude.{◌≡◌, ℕ, pos, List, [], ◌∷◌, ◌⊎◌, length, map, flat_map, drop, codes, Some, None, Ok, Err, IsUtf8}
 use Rattle.toml.specs.Data.{Members}
 use Rattle.toml.specs.Parse.{parse_document}
 use Rattle.hold_base.specs.Limits.{time_limit, chain_limit, types_limit, kinds_limit}
@@ -15,7 +15,7 @@ use Rattle.hold_job.specs.declared.job.Job.{Job}
 use Rattle.hold_job.specs.declared.fault.JobFault.{JobFault}
 use Rattle.hold_job.specs.declared.fault.JobFault.TheVariants.{Toml, Key, Range, Double, SameName}
 use Rattle.hold_job.specs.Limits.{nodes_limit, searchers_limit, order_limit, usual_chain, usual_nodes, usual_searchers, usual_order}
-use Rattle.hold_job.specs.Outcome.{Outcome, ◌>>=◌}
+use Rattle.hold_job.specs.Outcome.{Outcome}
 use Rattle.hold_job.specs.Keys.{known, required, or_else, if_any}
 use Rattle.hold_job.specs.Lists.{every, every_within}
 use Rattle.hold_job.specs.Names.{file_name}
@@ -62,9 +62,23 @@ job_in own ms = do
   _ ← no_doubles types kinds clocks
   _ ← kept_apart own netlist output certificate plan corners
   Ok (record {
-    netlist = netlist; output = output; certificate = certificate; plan = plan; period = pos period; max_chain = max_chain; nodes = nodes;
-    searchers = searchers; order = order; corners = corners; library = map (λ t. t.cell) types; arcs = flat_map (λ t. t.arcs) types;
-    checks = flat_map (λ t. t.checks) types; kinds = kinds; arrival = arrival; clocks = clocks; keeps = keeps;
+    netlist = netlist;
+    output = output;
+    certificate = certificate;
+    plan = plan;
+    period = pos period;
+    max_chain = max_chain;
+    nodes = nodes;
+    searchers = searchers;
+    order = order;
+    corners = corners;
+    library = map (λ t. t.cell) types;
+    arcs = flat_map (λ t. t.arcs) types;
+    checks = flat_map (λ t. t.checks) types;
+    kinds = kinds;
+    arrival = arrival;
+    clocks = clocks;
+    keeps = keeps;
   })
 
 abbrev pub job_of : List ℕ → Members → Outcome Job

@@ -78,13 +78,17 @@ fn test_type_keys(alloc: Global, table: &Table) -> Result<(), Stop<JobFault>>
         Some(Role::Register) => test_keys(
             alloc,
             table,
-            &["name", "role", "clock", "data", "quiet", "outputs", "arcs", "checks"],
+            &[
+                "name", "role", "clock", "data", "quiet", "outputs", "arcs", "checks",
+            ],
         ),
         Some(Role::Opaque) => test_keys(alloc, table, &["name", "role", "inputs", "outputs"]),
         None => test_keys(
             alloc,
             table,
-            &["name", "role", "inputs", "clock", "data", "quiet", "outputs", "arcs", "checks"],
+            &[
+                "name", "role", "inputs", "clock", "data", "quiet", "outputs", "arcs", "checks",
+            ],
         ),
     }
 }
@@ -113,7 +117,14 @@ fn comb_in(
 {
     let inputs = pins_at(alloc, &[], table, "inputs")?;
     let outputs = pins_at(alloc, inputs.as_slice(), table, "outputs")?;
-    let arcs = arcs_at(alloc, corners, &name, inputs.as_slice(), outputs.as_slice(), table)?;
+    let arcs = arcs_at(
+        alloc,
+        corners,
+        &name,
+        inputs.as_slice(),
+        outputs.as_slice(),
+        table,
+    )?;
     Ok(ListedType {
         cell: CellType {
             name,

@@ -82,7 +82,9 @@ pub fn keep_apart(own: &Name, files: &Files, corners: &[Corner]) -> Result<(), S
     {
         return Err(Stop::Fault(JobFault::SameName(files.output.clone()?)));
     }
-    if certificate == own || certificate == netlist || is_plan_or_sdf(certificate, &files.plan, corners)
+    if certificate == own
+        || certificate == netlist
+        || is_plan_or_sdf(certificate, &files.plan, corners)
     {
         return Err(Stop::Fault(JobFault::SameName(files.certificate.clone()?)));
     }

@@ -20,11 +20,7 @@ pub fn none<T>(alloc: Global) -> List<T>
 }
 
 /// What each item of a list gives, in order.
-fn each<F: Form>(
-    alloc: Global,
-    form: &F,
-    items: &Array,
-) -> Result<List<F::Given>, Stop<JobFault>>
+fn each<F: Form>(alloc: Global, form: &F, items: &Array) -> Result<List<F::Given>, Stop<JobFault>>
     ensures { Answers result (each (F.form form.now) (array_view items.now)) }
 {
     let mut so_far = Vec::new(alloc);

@@ -46,11 +46,7 @@ fn new_name(alloc: Global, taken: &mut NameSet, value: &Value) -> Result<Name, S
 }
 
 /// The names in a list, none of which is taken and none of which stands twice.
-fn new_names(
-    alloc: Global,
-    taken: NameSet,
-    items: &Array,
-) -> Result<List<Name>, Stop<JobFault>>
+fn new_names(alloc: Global, taken: NameSet, items: &Array) -> Result<List<Name>, Stop<JobFault>>
     ensures { Answers result (in_turn (λ so_far. new_name (taken ++ so_far)) [] (array_view items.now)) }
 {
     let mut seen = taken;

@@ -144,7 +144,12 @@ fn job_by_parts(alloc: Global, table: &Table, own: &Name) -> Result<Job, Stop<Jo
     let settings = settings_in(alloc, table)?;
     let listing = listing_in(alloc, table)?;
     let types = listing.types.as_slice();
-    test_doubles(alloc, types, listing.kinds.as_slice(), listing.clocks.as_slice())?;
+    test_doubles(
+        alloc,
+        types,
+        listing.kinds.as_slice(),
+        listing.clocks.as_slice(),
+    )?;
     keep_apart(own, &files, listing.corners.as_slice())?;
     Ok(job_from(alloc, files, settings, listing)?)
 }

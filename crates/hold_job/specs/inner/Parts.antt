@@ -11,7 +11,7 @@ use Rattle.hold_job.specs.declared.files.Files.{Files}
 use Rattle.hold_job.specs.declared.settings.Settings.{Settings}
 use Rattle.hold_job.specs.declared.listing.Listing.{Listing}
 use Rattle.hold_job.specs.Limits.{nodes_limit, searchers_limit, order_limit, usual_chain, usual_nodes, usual_searchers, usual_order}
-use Rattle.hold_job.specs.Outcome.{Outcome, ◌>>=◌}
+use Rattle.hold_job.specs.Outcome.{Outcome}
 use Rattle.hold_job.specs.Keys.{known, required, or_else, if_any}
 use Rattle.hold_job.specs.Lists.{every, every_within}
 use Rattle.hold_job.specs.Names.{file_name}
@@ -51,9 +51,23 @@ listing_in ms = do
 
 abbrev pub job_from : Files → Settings → Listing → Job
 job_from f s l = record {
-  netlist = f.netlist; output = f.output; certificate = f.certificate; plan = f.plan; period = s.period; max_chain = s.max_chain; nodes = s.nodes;
-  searchers = s.searchers; order = s.order; corners = l.corners; library = map (λ t. t.cell) l.types; arcs = flat_map (λ t. t.arcs) l.types;
-  checks = flat_map (λ t. t.checks) l.types; kinds = l.kinds; arrival = l.arrival; clocks = l.clocks; keeps = l.keeps;
+  netlist = f.netlist;
+  output = f.output;
+  certificate = f.certificate;
+  plan = f.plan;
+  period = s.period;
+  max_chain = s.max_chain;
+  nodes = s.nodes;
+  searchers = s.searchers;
+  order = s.order;
+  corners = l.corners;
+  library = map (λ t. t.cell) l.types;
+  arcs = flat_map (λ t. t.arcs) l.types;
+  checks = flat_map (λ t. t.checks) l.types;
+  kinds = l.kinds;
+  arrival = l.arrival;
+  clocks = l.clocks;
+  keeps = l.keeps;
 }
 
 unfoldable pub job_by_parts : List ℕ → Members → Outcome Job

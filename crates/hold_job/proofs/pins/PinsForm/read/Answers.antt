@@ -11,5 +11,5 @@ pub returns : goal.returns
 returns c =
     let taken = c.args.self.now.taken.now in
     let same = in_turn_same (λ so_far. new_name (c.in_ok-taken.taken ++ so_far)) (λ so_far. new_name (taken ++ so_far))
-        (λ so_far. new_name_same _ _ (among_behind _ _ so_far c.in_ok-taken.ensures)) [] (array_view c.in-Some.items.now) in
+    (λ so_far. new_name_same _ _ (among_behind _ _ so_far c.in_ok-taken.ensures)) [] (array_view c.in-Some.items.now) in
     subst (Answers c.new_names.result) (same ∙ ap (λ o. of_kind o >>= in_turn (λ so_far. new_name (taken ++ so_far)) []) c.in-Some.ensures) c.new_names.ensures
