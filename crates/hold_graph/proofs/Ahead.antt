@@ -1,9 +1,9 @@
 -- Which pins stand ahead in a topological order, and in the order against it.
-use Rattle.std.proofs.Common.{◌≡◌, ℕ, ◌+◌, ◌-◌, ◌<◌, ◌≤◌, List, [], length, get_or, refl, ap, sym, ◌∙◌, subst, arith}
+use Rattle.std.proofs.Common.{◌≡◌, ℕ, ◌+◌, ◌-◌, ◌<◌, List, [], length, get_or, refl, ap, sym, ◌∙◌, subst, arith}
 use Rattle.std.specs.Prelude.{Some, Bool, slice_get, slice_index_or, Contains, All, reverse}
 use Rattle.std.proofs.lemmas.List.{get_or-reverse, length-reverse}
 use Rattle.std.proofs.lemmas.List.Elements.{All-contains}
-use Rattle.std.proofs.lemmas.Option.{slice_get-get_or, slice_get_within, slice_get_read, get_or_from_slice_get, same_Some}
+use Rattle.std.proofs.lemmas.Option.{slice_get-get_or, slice_get_within, slice_get_read, get_or_from_slice_get}
 use Rattle.hold_base.specs.declared.number.PinNo.{PinNo}
 use Rattle.hold_graph.specs.declared.graph.Arc.{Arc}
 use Rattle.hold_graph.specs.declared.adjacency.End.{End}
@@ -12,12 +12,11 @@ use Rattle.hold_graph.specs.declared.graph.Parts.{Parts}
 use Rattle.hold_graph.specs.Graph.{NamesItsPins, AreBelow}
 use Rattle.hold_graph.specs.Path.{HasArc}
 use Rattle.hold_graph.specs.Adjacency.{places_into, places_from}
-use Rattle.hold_graph.specs.Cycles.{AreDifferent, IsTopological}
-use Rattle.hold_graph.specs.inner.Adjacency.{pin_at, places_at, AreRows}
+use Rattle.hold_graph.specs.Cycles.{IsTopological}
+use Rattle.hold_graph.specs.inner.Adjacency.{places_at, AreRows}
 use Rattle.hold_graph.specs.inner.Marks.{far_pin, StandsAhead, IsMarked, AreMarked, AreFlags, AreExact, IsLedTo, LeadsTo}
 use Rattle.hold_graph.proofs.Acyclic.{stands_before}
 use Rattle.hold_graph.proofs.PlacesOf.{places_of-below}
-use Rattle.hold_graph.proofs.Places.{same_pin}
 use Rattle.hold_graph.proofs.Spread.{IsPassed, IsArcAt, arc_at, led-exact, leads-exact}
 
 -- the item at a place, counted from the other end
@@ -35,15 +34,6 @@ at_reverse xs j k x sum at =
     let e : length xs - 1 - k ≡ j = omega arith in
     let read : get_or (reverse xs) k x ≡ x = get_or-reverse xs k x (omega arith) ∙ ap (λ i. get_or xs i x) e ∙ get_or_from_slice_get xs j x x at in
     slice_get_read (reverse xs) (length (reverse xs)) k x refl (omega arith) (sym read)
-
-pub reverse-different : (order : List PinNo) → AreDifferent order → AreDifferent (reverse order)
-reverse-different order h = λ j k pin is_j is_k.
-    let a = reverse_at order j pin is_j in
-    let b = reverse_at order k pin is_k in
-    let same : a.0 ≡ b.0 = h a.0 b.0 pin a.2 b.2 in
-    let e = a.1 in
-    let f = b.1 in
-    omega arith
 
 pub below_at : (pins : ℕ) (order : List PinNo) → All (λ pin. pin.0 < pins) order → (k : ℕ) (pin : PinNo) → slice_get order k ≡ Some pin → pin.0 < pins
 below_at pins order below k pin at =

@@ -1,10 +1,10 @@
 -- Checked paths, by the flags of pins and the rows of arcs that end at each.
-use Rattle.std.proofs.Common.{◌≡◌, ℕ, zero, suc, ◌+◌, ◌-◌, ◌<◌, ◌≤◌, List, [], ◌∷◌, length, get_or, Bool, true, false, refl, ap, sym, ◌∙◌, subst, ◌⊎◌, inl, inr, arith}
+use Rattle.std.proofs.Common.{◌≡◌, ℕ, suc, ◌+◌, ◌-◌, ◌<◌, ◌≤◌, List, [], ◌∷◌, length, get_or, Bool, true, false, refl, ap, sym, ◌∙◌, subst, ◌⊎◌, inl, inr, arith}
 use Rattle.std.specs.Prelude.{Some, slice_get, Contains, All}
 use Rattle.std.proofs.lemmas.Bool.{cases_lt, cases_eq}
 use Rattle.std.proofs.lemmas.List.{get_or_past}
 use Rattle.std.proofs.lemmas.List.Elements.{All-contains}
-use Rattle.std.proofs.lemmas.Option.{slice_get-get_or, slice_get_within, slice_get_read, get_or_from_slice_get, same_Some}
+use Rattle.std.proofs.lemmas.Option.{slice_get_within, slice_get_read, get_or_from_slice_get, same_Some}
 use Rattle.hold_base.specs.declared.number.PinNo.{PinNo}
 use Rattle.hold_graph.specs.declared.graph.Arc.{Arc}
 use Rattle.hold_graph.specs.declared.graph.Parts.{Parts}
@@ -12,10 +12,8 @@ use Rattle.hold_graph.specs.declared.adjacency.End.TheVariants.{To}
 use Rattle.hold_graph.specs.Path.{HasArc, EachNext, last_pin}
 use Rattle.hold_graph.specs.Graph.{AreBelow, NamesItsPins}
 use Rattle.hold_graph.specs.Adjacency.{places_into}
-use Rattle.hold_graph.specs.inner.Adjacency.{AreRows}
 use Rattle.hold_graph.specs.inner.Graph.{IsWalkThrough}
 use Rattle.hold_graph.specs.inner.Marks.{AreFlags}
-use Rattle.hold_graph.proofs.Places.{same_pin}
 use Rattle.hold_graph.proofs.Spread.{IsArcAt, arc_at, at_row, place_of_arc}
 
 -- the flag of any pin, also of one past the flags
@@ -80,10 +78,6 @@ walk-from_flags parts launches captures first rest d begins ends some on_launch 
   ends = subst (Contains parts.captures) (sym (last_pin-at first rest d some)) (flag-sound parts.pins parts.captures captures ends (get_or rest (length rest - 1) d) on_capture);
   next = next;
 }
-
-pub launch-flag : (parts : Parts) (launches : List Bool) (first : PinNo) (rest : List PinNo) → NamesItsPins parts → AreFlags parts.pins parts.launches launches → IsWalkThrough parts first rest →
-    get_or launches first.0 false ≡ true
-launch-flag parts launches first rest numbers flags walk = flag-whole parts.pins parts.launches launches flags numbers.launches first walk.begins
 
 pub capture-flag : (parts : Parts) (captures : List Bool) (first : PinNo) (rest : List PinNo) (d : PinNo) → NamesItsPins parts → AreFlags parts.pins parts.captures captures → 0 < length rest → IsWalkThrough parts first rest →
     get_or captures (get_or rest (length rest - 1) d).0 false ≡ true

@@ -1,11 +1,11 @@
 -- Sites: what makes a pin one by the walks through it, lists of them in pin order, and the table of their places.
-use Rattle.std.proofs.Common.{◌≡◌, ◌≢◌, ℕ, zero, suc, ◌+◌, ◌<◌, ◌≤◌, List, [], ◌∷◌, ◌++◌, length, set, get_or, take, refl, ap, sym, ◌∙◌, subst, ◌⊎◌, inl, inr, arith, Bool, true, false, not, ◌&&◌, append_assoc}
+use Rattle.std.proofs.Common.{◌≡◌, ℕ, zero, suc, ◌+◌, ◌<◌, ◌≤◌, List, [], ◌∷◌, ◌++◌, length, set, get_or, refl, ap, sym, ◌∙◌, subst, ◌⊎◌, inl, inr, arith, Bool, true, false, not, ◌&&◌, append_assoc}
 use Rattle.std.specs.Prelude.{Option, Some, None, slice_get, Contains, All}
 use Rattle.std.proofs.lemmas.Bool.{cases_eq, cases_order, and_parts, false_from_ne_true}
 use Rattle.std.proofs.lemmas.List.Folds.{Any-from_list_any, list_any-from_Any}
-use Rattle.std.proofs.lemmas.List.{length-set, get_or-set_same, get_or-set_other, append-nil, get_or-replicate, get_or_past, length-replicate}
-use Rattle.std.proofs.lemmas.List.Elements.{All-contains, All-push, All-nil, All-weaker, Contains-push, Contains-append_left}
-use Rattle.std.proofs.lemmas.Option.{slice_get-get_or, slice_get_within, slice_get_read, get_or_from_slice_get, same_Some, none-some}
+use Rattle.std.proofs.lemmas.List.{get_or-set_same, get_or-set_other}
+use Rattle.std.proofs.lemmas.List.Elements.{All-contains, All-push, All-weaker, Contains-push, Contains-append_left}
+use Rattle.std.proofs.lemmas.Option.{slice_get-get_or, slice_get_within, slice_get_read, get_or_from_slice_get, same_Some}
 use Rattle.hold_base.proofs.Lists.{slice_get-push}
 use Rattle.hold_base.specs.declared.number.PinNo.{PinNo}
 use Rattle.hold_base.specs.declared.number.SiteNo.{SiteNo}
@@ -107,15 +107,6 @@ pub site-there : (parts : Parts) (pin : PinNo) → NamesItsPins parts → IsSite
 site-there parts pin numbers site =
     All-contains (λ (arc : Arc). arc.to.0 < parts.pins) parts.arcs (record { from = site.ends.source; to = pin; wire = true }) numbers.to site.ends.wire
 
--- lists of sites, made pin by pin
-pub sites-none : (parts : Parts) → AreSitesBelow parts 0 []
-sites-none parts = record {
-  sound = All-nil (IsSite parts);
-  below = All-nil (λ (pin : PinNo). pin.0 < 0);
-  whole = λ pin site lt. absurd (omega arith);
-  rising = λ j k a b lt is_a is_b. cc;
-}
-
 pub sites-skip : (parts : Parts) (n : ℕ) (sites : List PinNo) → AreSitesBelow parts n sites → (IsSite parts (record { 0 = n }) → ⊥) → AreSitesBelow parts (n + 1) sites
 sites-skip parts n sites h isnt = record {
   sound = h.sound;
@@ -152,13 +143,6 @@ sites-push parts n sites h site = record {
     rising_case j k a b lt (inr last) (inl is_b) = absurd (let within = slice_get_within sites k b is_b in let e = last.0 in omega arith)
     rising_case j k a b lt (inr last) (inr end) = absurd (let e = last.0 in let f = end.0 in omega arith)
 
-pub sites-all : (parts : Parts) (n : ℕ) (sites : List PinNo) → NamesItsPins parts → parts.pins ≤ n → AreSitesBelow parts n sites → AreSites parts sites
-sites-all parts n sites numbers all h = record {
-  sound = h.sound;
-  whole = λ pin site. h.whole pin site (let there = site-there parts pin numbers site in omega arith);
-  rising = h.rising;
-}
-
 -- rising numbers are at least their places
 pub rising-least : (sites : List PinNo) → ((j k : ℕ) (a b : PinNo) → j < k → slice_get sites j ≡ Some a → slice_get sites k ≡ Some b → a.0 < b.0) →
     (k : ℕ) (pin : PinNo) → slice_get sites k ≡ Some pin → k ≤ pin.0
@@ -183,12 +167,6 @@ rising-few pins (x ∷ xs) rising below =
 pub record IsSiteTableUpTo (sites : List PinNo) (n : ℕ) (table : List (Option SiteNo)) : Type 0 where
   pub tells : (pin : ℕ) (site : SiteNo) → get_or table pin None ≡ Some site → slice_get sites site.0 ≡ Some (record { 0 = pin })
   pub each : (k : ℕ) (pin : PinNo) → k < n → slice_get sites k ≡ Some pin → get_or table pin.0 None ≡ Some (record { 0 = k })
-
-pub table-none : (sites : List PinNo) (pins : ℕ) (table : List (Option SiteNo)) → ((pin : ℕ) → get_or table pin None ≡ None) → IsSiteTableUpTo sites 0 table
-table-none sites pins table none = record {
-  tells = λ pin site is. absurd (none-some site (sym (none pin) ∙ is));
-  each = λ k pin lt is. absurd (omega arith);
-}
 
 pub table-more : (sites : List PinNo) → ((j k : ℕ) (a b : PinNo) → j < k → slice_get sites j ≡ Some a → slice_get sites k ≡ Some b → a.0 < b.0) →
     (n : ℕ) (new : PinNo) (table : List (Option SiteNo)) → slice_get sites n ≡ Some new → new.0 < length table →

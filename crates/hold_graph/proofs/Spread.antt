@@ -1,11 +1,11 @@
 -- Marks that spread along arcs: one pass in an order in which the far ends stand ahead leaves the equation of marks at each pin,
 -- and where it holds at each pin, the marks tell which pins walks lead from, or to.
 use Rattle.std.proofs.Common.{◌≡◌, ◌≢◌, ℕ, zero, suc, ◌+◌, ◌<◌, ◌≤◌, ◌==◌, List, [], ◌∷◌, ◌++◌, length, set, get_or, Bool, true, false, ◌||◌, refl, ap, sym, ◌∙◌, subst, ◌⊎◌, inl, inr, arith, eq-eqb}
-use Rattle.std.specs.Prelude.{Option, Some, None, slice_get, slice_index_or, Contains, All, IsTrue}
-use Rattle.std.specs.List.{list_any, Any}
-use Rattle.std.proofs.lemmas.Bool.{cases_eq, cases_order, or_cases, or_left, or_right, eqb-true}
+use Rattle.std.specs.Prelude.{Option, Some, slice_get, Contains, All}
+use Rattle.std.specs.List.{list_any}
+use Rattle.std.proofs.lemmas.Bool.{cases_eq, or_cases, or_left, or_right, eqb-true}
 use Rattle.std.proofs.lemmas.List.{get_or-set_same, get_or-set_other, get_or_default}
-use Rattle.std.proofs.lemmas.List.Elements.{All-contains, Contains-append_left}
+use Rattle.std.proofs.lemmas.List.Elements.{All-contains}
 use Rattle.std.proofs.lemmas.List.Folds.{Any-from_list_any, list_any-from_Any}
 use Rattle.std.proofs.lemmas.Option.{slice_get-get_or, slice_get_within, slice_get_read, get_or_from_slice_get, same_Some}
 use Rattle.hold_base.specs.declared.number.PinNo.{PinNo}
@@ -13,7 +13,6 @@ use Rattle.hold_graph.specs.declared.graph.Arc.{Arc}
 use Rattle.hold_graph.specs.declared.adjacency.End.{End}
 use Rattle.hold_graph.specs.declared.adjacency.End.TheVariants.{From, To}
 use Rattle.hold_graph.specs.Path.{HasArc, EachNext, last_pin}
-use Rattle.hold_graph.specs.Adjacency.{places_of}
 use Rattle.hold_graph.specs.Cycles.{AreDifferent}
 use Rattle.hold_graph.specs.inner.Adjacency.{pin_at, places_at, AreRows}
 use Rattle.hold_graph.specs.inner.Marks.{AreExact, AreFlags, far_pin, is_marked, any_marked, IsMarked, StandsAhead, LeadsTo, IsLedTo}
@@ -30,9 +29,6 @@ list_any-agree p q (x ∷ xs) same =
 -- the equation holds at the pins before place k of the order
 pub record AreMarkedUpTo (far : End) (arcs : List Arc) (rows : List (List ℕ)) (seeds : List Bool) (order : List PinNo) (n : ℕ) (marks : List Bool) : Type 0 where
   pub at : (k : ℕ) (pin : PinNo) → k < n → slice_get order k ≡ Some pin → IsMarked far arcs rows seeds marks pin.0
-
-pub marked-none : (far : End) (arcs : List Arc) (rows : List (List ℕ)) (seeds : List Bool) (order : List PinNo) (marks : List Bool) → AreMarkedUpTo far arcs rows seeds order 0 marks
-marked-none far arcs rows seeds order marks = record { at = λ k pin lt is. absurd (omega arith) }
 
 -- a new mark of a pin leaves what the arcs of an earlier one tell
 any_marked-kept : (far : End) (arcs : List Arc) (rows : List (List ℕ)) (order : List PinNo) (marks : List Bool) (n : ℕ) (pin : PinNo) (mark : Bool) →
