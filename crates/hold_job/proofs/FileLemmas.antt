@@ -1,5 +1,5 @@
 -- Names of SDF files, corner by corner.
-use Rattle.std.proofs.Common.{◌≡◌, ℕ, List, [], ◌∷◌, Option, Some, None, true, false, refl, bytes_eq}
+use Rattle.std.proofs.Common.{◌≡◌, ℕ, List, ◌∷◌, Some, None, true, false, refl, bytes_eq}
 use Rattle.hold_netlist.specs.Names.{is_among}
 use Rattle.hold_job.specs.declared.corner.Corner.{Corner}
 use Rattle.hold_job.specs.FileNames.{sdf_names}

@@ -1,6 +1,6 @@
 -- What a text gives is one job or one fault.
-use Rattle.std.proofs.Common.{◌≡◌, ℕ, List, Some, None, refl, ap, sym, subst, ◌∙◌, ◌⊎◌, inl, inr}
-use Rattle.std.specs.Prelude.{Result, Ok, Err}
+use Rattle.std.proofs.Common.{◌≡◌, ℕ, List, Some, None, ap, sym, ◌∙◌, inl, inr}
+use Rattle.std.specs.Prelude.{Err}
 use Rattle.std.proofs.lemmas.Option.{same_Some}
 use Rattle.toml.specs.Data.{Members}
 use Rattle.hold_base.specs.declared.stop.Stop.{Stop}
@@ -10,7 +10,7 @@ use Rattle.hold_job.specs.declared.job.Job.{Job}
 use Rattle.hold_job.specs.declared.fault.JobFault.{JobFault}
 use Rattle.hold_job.specs.declared.fault.JobFault.TheVariants.{Toml}
 use Rattle.hold_job.specs.Outcome.{Outcome}
-use Rattle.hold_job.specs.Job.{job_in, job_of, at_top, top, IsTree, HasNoTree, Gives}
+use Rattle.hold_job.specs.Job.{job_of, at_top, IsTree, HasNoTree, Gives}
 use Rattle.hold_job.specs.inner.Parts.{job_by_parts}
 use Rattle.hold_job.specs.inner.Told.{IsToldAtTop}
 use Rattle.hold_job.proofs.PartLemmas.{job_by_parts_is}

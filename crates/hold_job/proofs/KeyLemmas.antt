@@ -1,5 +1,5 @@
 -- The keys of a table's map beside the members that it stands for.
-use Rattle.std.proofs.Common.{◌≡◌, ℕ, List, [], ◌∷◌, String, Global, string_bytes, cond, refl, ap}
+use Rattle.std.proofs.Common.{◌≡◌, ℕ, List, [], ◌∷◌, string_bytes, cond, refl, ap}
 use Rattle.std.specs.Prelude.{Some}
 use Rattle.std.specs.Map.{keys_of as map_keys}
 use Rattle.toml.specs.View.{members_view}

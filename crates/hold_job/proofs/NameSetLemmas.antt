@@ -3,7 +3,6 @@ use Rattle.std.proofs.Common.{◌≡◌, ℕ, ◌+◌, ◌<◌, List, [], ◌∷
 use Rattle.std.specs.Prelude.{Ok, Err}
 use Rattle.std.specs.Fmt.{decimal}
 use Rattle.toml.specs.Data.{Data, Items, no_items, item, as_str}
-use Rattle.hold_job.specs.declared.fault.JobFault.TheVariants.{Range}
 use Rattle.hold_job.specs.Outcome.{Outcome, ◌>>=◌, of_kind, in_rule, at}
 use Rattle.hold_job.specs.Keys.{Form}
 use Rattle.hold_job.specs.Lists.{in_turn}

@@ -4,7 +4,7 @@ use Rattle.std.specs.Prelude.{Ok, Err, nat_le}
 use Rattle.std.proofs.lemmas.Bool.Decides.{nat_tests}
 use Rattle.toml.specs.Data.{Data, Members, get_member, as_integer}
 use Rattle.hold_job.specs.declared.fault.JobFault.TheVariants.{Range}
-use Rattle.hold_job.specs.Outcome.{Outcome, ◌>>=◌, of_kind, in_rule, at}
+use Rattle.hold_job.specs.Outcome.{Outcome, ◌>>=◌, of_kind, at}
 use Rattle.hold_job.specs.Keys.{required, given_or, or_else}
 use Rattle.hold_job.specs.Numbers.{from_to, number}
 

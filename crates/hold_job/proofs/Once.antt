@@ -1,5 +1,5 @@
 -- Jobs in which nothing stands a second time.
-use Rattle.std.proofs.Common.{◌≡◌, ℕ, ◌+◌, List, [], ◌∷◌, ◌++◌, Bool, true, false, cond, Option, Some, None, length, map, codes, refl, ap, sym, subst, ◌∙◌, bytes_eq}
+use Rattle.std.proofs.Common.{◌≡◌, ℕ, ◌+◌, List, [], ◌∷◌, ◌++◌, Bool, true, false, cond, Option, Some, None, length, map, codes, refl, ap, sym, ◌∙◌, bytes_eq}
 use Rattle.std.specs.Prelude.{Ok, Err}
 use Rattle.hold_netlist.specs.declared.kind.Kind.{Kind}
 use Rattle.hold_netlist.specs.Names.{is_among}

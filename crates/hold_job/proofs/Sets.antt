@@ -1,13 +1,13 @@
 -- Arcs and checks that are read by sets of pins, beside those read by the lists that the sets were made of.
-use Rattle.std.proofs.Common.{◌≡◌, ℕ, List, [], ◌∷◌, ◌++◌, Option, Some, None, codes, refl, ap, sym, ◌∙◌}
-use Rattle.std.specs.Prelude.{Ok, Err}
+use Rattle.std.proofs.Common.{◌≡◌, ℕ, List, [], ◌∷◌, Option, Some, None, codes, refl, ap, sym, ◌∙◌}
+use Rattle.std.specs.Prelude.{Ok}
 use Rattle.toml.specs.Data.{Data, Members, as_array, get_member}
 use Rattle.hold_netlist.specs.Names.{is_among}
 use Rattle.hold_job.specs.declared.cell_times.TypeArc.{TypeArc}
 use Rattle.hold_job.specs.declared.cell_times.TypeCheck.{TypeCheck}
-use Rattle.hold_job.specs.Outcome.{Outcome, ◌>>=◌, of_kind, at}
+use Rattle.hold_job.specs.Outcome.{◌>>=◌, of_kind, at}
 use Rattle.hold_job.specs.Keys.{Form, table_of, required, given_or, or_else}
-use Rattle.hold_job.specs.Lists.{in_turn, each, every}
+use Rattle.hold_job.specs.Lists.{every}
 use Rattle.hold_job.specs.Names.{one_of}
 use Rattle.hold_job.specs.Numbers.{earliest, spans, values}
 use Rattle.hold_job.specs.CellTypes.{arc_of, check_of}

@@ -16,7 +16,7 @@ use Rattle.hold_job.specs.declared.cell_times.TypeArc.{TypeArc}
 use Rattle.hold_job.specs.declared.cell_times.TypeCheck.{TypeCheck}
 use Rattle.hold_job.specs.declared.listed_type.ListedType.{ListedType}
 use Rattle.hold_job.specs.declared.fault.JobFault.TheVariants.{Range}
-use Rattle.hold_job.specs.Outcome.{Outcome, ◌>>=◌, of_kind, in_rule, at}
+use Rattle.hold_job.specs.Outcome.{Outcome, ◌>>=◌, of_kind}
 use Rattle.hold_job.specs.Keys.{Form, known, table_of, required, or_else}
 use Rattle.hold_job.specs.Lists.{list_of, in_turn, every}
 use Rattle.hold_job.specs.Names.{text, name, new_name, one_of}

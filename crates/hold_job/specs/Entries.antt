@@ -18,7 +18,7 @@ use Rattle.hold_job.specs.declared.corner.Corner.{Corner}
 use Rattle.hold_job.specs.declared.inst_times.Clock.{Clock}
 use Rattle.hold_job.specs.declared.inst_times.Keep.{Keep}
 use Rattle.hold_job.specs.declared.fault.JobFault.TheVariants.{Range}
-use Rattle.hold_job.specs.Outcome.{Outcome, ◌>>=◌, in_rule, at}
+use Rattle.hold_job.specs.Outcome.{Outcome, ◌>>=◌}
 use Rattle.hold_job.specs.Keys.{Form, table_of, required, if_any}
 use Rattle.hold_job.specs.Lists.{list_within, in_turn}
 use Rattle.hold_job.specs.Names.{text, file_name, name, corner_name}

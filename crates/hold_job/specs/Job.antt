@@ -15,7 +15,7 @@ use Rattle.hold_job.specs.declared.job.Job.{Job}
 use Rattle.hold_job.specs.declared.fault.JobFault.{JobFault}
 use Rattle.hold_job.specs.declared.fault.JobFault.TheVariants.{Toml, Key, Range, Double, SameName}
 use Rattle.hold_job.specs.Limits.{nodes_limit, searchers_limit, order_limit, usual_chain, usual_nodes, usual_searchers, usual_order}
-use Rattle.hold_job.specs.Outcome.{Outcome}
+use Rattle.hold_job.specs.Outcome.{Outcome, ◌>>=◌}
 use Rattle.hold_job.specs.Keys.{known, required, or_else, if_any}
 use Rattle.hold_job.specs.Lists.{every, every_within}
 use Rattle.hold_job.specs.Names.{file_name}

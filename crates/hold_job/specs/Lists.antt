@@ -10,7 +10,7 @@
 --   least and at most so many.
 use Rattle.std.specs.Prelude.{ℕ, ◌+◌, List, [], ◌∷◌, ◌++◌, length, nat_le, ◌&&◌, Ok}
 use Rattle.std.specs.Fmt.{decimal}
-use Rattle.toml.specs.Data.{Data, Items, no_items, item, as_array}
+use Rattle.toml.specs.Data.{Items, no_items, item, as_array}
 use Rattle.hold_job.specs.Outcome.{Outcome, ◌>>=◌, of_kind, in_rule, at}
 use Rattle.hold_job.specs.Keys.{Form}
 

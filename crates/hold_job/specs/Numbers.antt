@@ -6,7 +6,7 @@
 -- span least: the form of a list of two times, of which the first is at least so much and at most the second.
 -- spans least corners: the form of a list of one such span for each of so many corners.
 -- values corners: the form of a list of one time for each corner.
-use Rattle.std.specs.Prelude.{ℕ, ℤ, pos, negsuc, neg_ℤ, int_le, List, [], codes, Bool, ◌&&◌, nat_le, if◌then◌else◌, Ok, Err}
+use Rattle.std.specs.Prelude.{ℕ, ℤ, pos, negsuc, neg_ℤ, int_le, List, [], codes, ◌&&◌, nat_le, Err}
 use Rattle.toml.specs.Data.{Data, Items, no_items, item, as_integer}
 use Rattle.hold_base.specs.Limits.{time_limit}
 use Rattle.hold_base.specs.declared.time.Interval.{Interval}

@@ -1,4 +1,4 @@
-use Rattle.std.proofs.Common.{◌≡◌, [], drop, length}
+use Rattle.std.proofs.Common.{◌≡◌, drop, length}
 use Rattle.toml.specs.View.{items_view}
 use Rattle.hold_job.specs.Lists.{in_turn, each}
 use Rattle.hold_job.proofs.list.each.Given as goal
