@@ -36,7 +36,7 @@ listed_excess-least : (problem : Problem) (sites : List PinNo) (paths : List Lis
     IsMet problem (buffers_of (length problem.costs) sites counts) → ListsChecked problem paths number →
     pos 0 ≤ℤ listed_excess problem sites counts (slice_get paths number.0)
 listed_excess-least problem sites paths counts number met listed =
-    rw listed.at (excess_in-least problem sites counts listed.path (slice_get problem.corners listed.path.corner.0) met listed.checked refl)
+    rw listed.at (excess_in-least problem sites counts listed.path (slice_get problem.corners listed.path.corner.0) met listed.of_problem.checked refl)
 
 paths_value-least : (problem : Problem) (sites : List PinNo) (paths : List Listed) (counts : List ℕ) (terms : List (PathNo × ℕ)) →
     IsMet problem (buffers_of (length problem.costs) sites counts) → All (λ (term : PathNo × ℕ). ListsChecked problem paths term.0) terms →

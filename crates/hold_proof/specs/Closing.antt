@@ -1,4 +1,5 @@
--- ListsChecked problem paths number: a path of that number is listed, it is a checked path, and the problem has its corner.
+-- IsOfProblem problem path: the listed path is a checked path, and the problem has its corner.
+-- ListsChecked problem paths number: a path of that number is listed, and it is of the problem.
 -- weight_limit: the greatest weight of a leaf, 2^60. weight_of leaf: its scale and all its multipliers, summed.
 -- IsOrderly leaf: the leaf names paths and sites each at most once and in rising order, each multiplier is at least 1, and the
 --   weight is within the limit.
@@ -19,11 +20,14 @@ use Rattle.hold_proof.specs.declared.node.Leaf.{Leaf}
 use Rattle.hold_proof.specs.InForce.{InForce}
 use Rattle.hold_proof.specs.Values.{IsBeta}
 
+pub record IsOfProblem (problem : Problem) (path : Listed) : Type 0 where
+  pub checked : IsCheckedPath problem.graph path.pins
+  pub corner : path.corner.0 < length problem.corners
+
 pub record ListsChecked (problem : Problem) (paths : List Listed) (number : PathNo) : Type 0 where
   pub path : Listed
   pub at : slice_get paths number.0 ≡ Some path
-  pub checked : IsCheckedPath problem.graph path.pins
-  pub corner : path.corner.0 < length problem.corners
+  pub of_problem : IsOfProblem problem path
 
 abbrev pub weight_limit : ℕ
 weight_limit = 1152921504606846976

@@ -4,5 +4,7 @@ pub mod InForce
 pub mod Closing
 pub mod Proving
 pub mod Least
+pub mod Flaws
+pub mod Room
 pub mod Spellable
 pub mod inner

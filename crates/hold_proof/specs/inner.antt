@@ -1,1 +1,9 @@
 pub mod Forest
+pub mod Forms
+pub mod Gaps
+pub mod LeafTerms
+pub mod Changes
+pub mod Judging
+pub mod Walk
+pub mod Places
+pub mod Over

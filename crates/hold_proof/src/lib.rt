@@ -3,14 +3,24 @@
 
 mod certificate;
 mod claim;
+mod cost;
+mod excess;
+mod factors;
 mod flaw;
+mod gaps;
 mod node;
+mod paths;
+mod places;
+mod scratch;
 mod shape;
 mod short;
+mod walk;
+mod wide;
 
 pub use certificate::Certificate;
 pub use claim::Claim;
 pub use flaw::TreeFlaw;
 pub use node::{Leaf, Node};
+pub use scratch::Scratch;
 pub use shape::Shape;
 pub use short::Short;

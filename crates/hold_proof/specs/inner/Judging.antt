@@ -1,0 +1,36 @@
+-- How far a tree is judged.
+--
+-- forced below box: the box in force with the bound, if any.
+-- visits_of below boxes trees: the visits of these trees, one after another, each over the box of its place.
+-- IsJudged problem sites paths below root tree nodes place boxes: the nodes before the place are judged and fine; the nodes from it
+--   on spell trees, each over one of the boxes, and their visits are the rest of the tree's.
+use Rattle.std.specs.Prelude.{◌≡◌, ℕ, List, [], ◌∷◌, ◌++◌, length, drop, Option, Some}
+use Rattle.std.specs.List.{AllByRecursion}
+use Rattle.hold_base.specs.declared.number.PinNo.{PinNo}
+use Rattle.hold_graph.specs.declared.problem.Problem.{Problem}
+use Rattle.hold_graph.specs.declared.problem.Listed.{Listed}
+use Rattle.hold_graph.specs.declared.boxed.Boxed.{Boxed}
+use Rattle.hold_proof.specs.declared.node.Node.{Node}
+use Rattle.hold_proof.specs.Tree.{ProofTree}
+use Rattle.hold_graph.specs.Boxes.{IsBox}
+use Rattle.hold_proof.specs.InForce.{InForce}
+use Rattle.hold_proof.specs.Flaws.{visits, IsFine}
+use Rattle.hold_proof.specs.inner.Forest.{forest}
+
+abbrev pub forced : Option ℕ → Boxed → InForce
+forced below box = record { within = box; below = below }
+
+abbrev pub visits_of : Option ℕ → List Boxed → List ProofTree → List (Node × InForce)
+visits_of below [] trees = []
+visits_of below (box ∷ boxes) [] = []
+visits_of below (box ∷ boxes) (tree ∷ trees) = visits (forced below box) tree ++ visits_of below boxes trees
+
+pub record IsJudged (problem : Problem) (sites : List PinNo) (paths : List Listed) (below : Option ℕ) (root : Boxed) (tree : ProofTree) (nodes : List Node) (place : ℕ) (boxes : List Boxed) : Type 0 where
+  pub trees : List ProofTree
+  pub spelled : forest (drop place nodes) ≡ Some trees
+  pub each : length boxes ≡ length trees
+  pub judged : List (Node × InForce)
+  pub rest : visits (forced below root) tree ≡ judged ++ visits_of below boxes trees
+  pub count : length judged ≡ place
+  pub fine : AllByRecursion (IsFine problem sites paths) judged
+  pub are_boxes : AllByRecursion (IsBox problem sites) boxes
