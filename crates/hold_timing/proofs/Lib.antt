@@ -6,3 +6,4 @@ pub mod Turns
 pub mod Pads
 pub mod Starts
 pub mod Passed
+pub mod Slacks

@@ -9,6 +9,8 @@
 --   a change can come there, or the latest. None where no walk comes there.
 -- required_at side problem spans pin: the time that the side's check asks of a path that ends at this capture: early, the time
 --   before which nothing may come; late, the time by which all must have come.
+-- IsSlackAt side problem spans buffers capture slack: of all checked paths that end at this capture, the least excess of the side.
+--   None where no path ends there.
 use Rattle.std.specs.Prelude.{◌≡◌, ℕ, ◌≤◌, List, [], ◌∷◌, length, Option, Some, None, Contains, ℤ, ◌+ℤ◌, ◌-ℤ◌, ◌≤ℤ◌}
 use Rattle.hold_base.specs.declared.number.PinNo.{PinNo}
 use Rattle.hold_base.specs.declared.time.Side.{Side}
@@ -18,7 +20,7 @@ use Rattle.hold_graph.specs.declared.problem.Spans.{Spans}
 use Rattle.hold_graph.specs.declared.problem.Problem.{Problem}
 use Rattle.hold_graph.specs.Path.{EachNext, last_pin}
 use Rattle.hold_graph.specs.Sums.{Buffers, path_sum}
-use Rattle.hold_graph.specs.Met.{capture_at, setup_at, hold_at}
+use Rattle.hold_graph.specs.Met.{capture_at, setup_at, hold_at, excess}
 
 abbrev pub AsBad : Side → ℤ → ℤ → Type 0
 AsBad Early x y = x ≤ℤ y
@@ -45,3 +47,6 @@ IsArrival side problem spans buffers pin = IsWorstOf side (IsWalkTo problem.grap
 abbrev pub required_at : Side → Problem → Spans → PinNo → ℤ
 required_at Early problem spans pin = (capture_at problem.graph spans pin).greatest +ℤ hold_at problem.graph spans pin
 required_at Late problem spans pin = (problem.period +ℤ (capture_at problem.graph spans pin).least) -ℤ setup_at problem.graph spans pin
+
+abbrev pub IsSlackAt : Side → Problem → Spans → Buffers → PinNo → Option ℤ → Type 0
+IsSlackAt side problem spans buffers capture = IsWorstOf Early (IsPathTo problem.graph capture) (excess side problem spans buffers)

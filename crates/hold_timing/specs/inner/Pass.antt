@@ -16,7 +16,10 @@
 -- pad_limit: the magnitude of what the buffers of one site add, of 8 kinds 16 buffers each.
 -- step_limit: the magnitude of one step with its buffers, 2^41. sum_limit: that of a sum over a path, 2^61 + 2^41.
 -- AreWithin limit times: each time that is there is within the limit.
-use Rattle.std.specs.Prelude.{◌≡◌, ℕ, ◌+◌, ◌*◌, ◌^◌, ◌==◌, if◌then◌else◌, List, [], ◌∷◌, length, map, Option, Some, None, slice_get, slice_index_or, Contains, ℤ, pos, ◌+ℤ◌}
+-- slack_of side time required: what is left between the time that comes and the time that the side's check asks for. slack_from:
+--   the same, none where nothing comes.
+-- required_limit: the magnitude of what a check asks for, of three times.
+use Rattle.std.specs.Prelude.{◌≡◌, ℕ, ◌+◌, ◌*◌, ◌^◌, ◌==◌, if◌then◌else◌, List, [], ◌∷◌, length, map, Option, Some, None, slice_get, slice_index_or, Contains, ℤ, pos, ◌+ℤ◌, ◌-ℤ◌}
 use Rattle.std.specs.Int.{int_min, int_max}
 use Rattle.hold_base.specs.Limits.{chain_limit, kinds_limit, time_limit}
 use Rattle.hold_base.specs.declared.number.PinNo.{PinNo}
@@ -93,3 +96,14 @@ sum_limit = 2 ^ 61 + 2 ^ 41
 
 abbrev pub AreWithin : ℕ → List (Option ℤ) → Type 0
 AreWithin limit times = (place : ℕ) (time : ℤ) → slice_index_or times place None ≡ Some time → IsWithin limit time
+
+abbrev pub slack_of : Side → ℤ → ℤ → ℤ
+slack_of Early time required = time -ℤ required
+slack_of Late time required = required -ℤ time
+
+abbrev pub slack_from : Side → Option ℤ → ℤ → Option ℤ
+slack_from side None required = None
+slack_from side (Some time) required = Some (slack_of side time required)
+
+abbrev pub required_limit : ℕ
+required_limit = 3 * time_limit
