@@ -28,7 +28,8 @@ fn built(alloc: Global, bound: &Bound, job: &Job) -> Result<Graph, Stop<BuildFau
     }
 }
 
-/// The timing graph of a netlist and a job: its arcs, launches, captures and clock pins, and the pins that the job keeps.
+/// The timing graph of a netlist and a job: its arcs, launches, captures and clock pins, and the pins that the job keeps. Refused as
+/// `parts` is, else for a cycle of the arcs.
 pub fn build(alloc: Global, bound: &Bound, job: &Job) -> Result<Graph, Stop<BuildFault>>
     ensures made { IfOk result (IsGraphOf bound.now job.now) }
     ensures sound { OnOk result (HasNoFault bound.now job.now) }

@@ -39,8 +39,9 @@ pub(crate) fn listed(alloc: Global, bound: &Bound, job: &Job) -> Result<Parts, S
     })
 }
 
-/// The lists that the timing graph of a netlist and a job is made of, whether or not its arcs have a cycle. All that stands in
-/// the job is in fs and plays no part but its `clock` and `keep` entries.
+/// The lists that the timing graph of a netlist and a job is made of, whether or not its arcs have a cycle. Of the job only its
+/// `clock` and `keep` entries play a part. Refused for the first entry that names no register or no connection, else where the arcs
+/// pass 2^22.
 pub fn parts(alloc: Global, bound: &Bound, job: &Job) -> Result<Parts, Stop<BuildFault>>
     ensures made { IfOk result (IsGraphOf bound.now job.now) }
     ensures sound { OnOk result (CanBeListed bound.now job.now) }

@@ -109,7 +109,7 @@ Same-self types kinds n = record {
   down = λ rows values fair h. subst (IsSolution types rows n) (sym (kept-whole types rows n values h)) h;
   reads = λ rows values fair h. record {
     pins = λ inst pin source is. record { there = source; is_pin = is; same = ap (λ (v : List Bool). source_value v source) (kept-whole types rows n values h) };
-    ports = λ name bit is. record { there = bit; is_bit = is; same = ap (λ (v : List Bool). bit_at v bit) (kept-whole types rows n values h) };
+    ports = λ port k bit is. record { there = bit; is_bit = is; same = ap (λ (v : List Bool). bit_at v bit) (kept-whole types rows n values h) };
   };
   up = λ rows old fair h. (
     old,

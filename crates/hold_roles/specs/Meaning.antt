@@ -3,22 +3,22 @@
 -- IsFair kinds rows: under these rows each kind of buffer copies its input to its output.
 -- kept n values: the values of w, kept to the net bits of n, which are the first ones.
 -- IsPin d inst pin source: the connection of that pin, of the instance of that name, has that source.
--- IsPortBit d name bit: that net bit is one of a port, and is said by that name.
+-- IsPortBit d port k bit: that net bit is the bit of the port of that name that is k from its left bound.
 -- ReadsAt, ReadsPort: what one such connection, or port bit, reads.
--- ReadsSame n w values: each connection of n stands in w too, and reads the same there; so does each bit of a port, by its name.
+-- ReadsSame n w values: each connection of n stands in w too, and reads the same there; so does each bit of a port, by the port's name
+--   and the bit's place in it.
 -- IsOnlyExtension types rows n w old new: new is the one solution of w that is old where it is kept to n.
 -- Same types kinds n w: under all fair rows each solution of w, kept to n, solves n, and all of n reads the same in both; and each
 --   solution of n is kept from exactly one solution of w.
 -- Worked example, in proofs/Examples: Same-self.
-use Rattle.std.specs.Prelude.{◌≡◌, ℕ, ◌<◌, List, [], ◌∷◌, take, Bool, Contains}
+use Rattle.std.specs.Prelude.{◌≡◌, ℕ, List, [], ◌∷◌, Some, take, slice_get, Bool, Contains}
 use Rattle.hold_netlist.specs.declared.inst.Source.{Source}
 use Rattle.hold_netlist.specs.declared.inst.Pin.{Pin}
 use Rattle.hold_netlist.specs.declared.inst.Inst.{Inst}
 use Rattle.hold_netlist.specs.declared.kind.Kind.{Kind}
-use Rattle.hold_netlist.specs.Bits.{bits_of}
+use Rattle.hold_netlist.specs.declared.wire.Port.{Port}
+use Rattle.hold_netlist.specs.Bits.{bits_of, IsNetBit}
 use Rattle.hold_netlist.specs.Design.{Design}
-use Rattle.hold_netlist.specs.PinText.{bit_name}
-use Rattle.hold_netlist.specs.Pins.{port_bits}
 use Rattle.hold_roles.specs.declared.role.CellType.{CellType}
 use Rattle.hold_roles.specs.declared.row.Row.{Row}
 use Rattle.hold_roles.specs.Solutions.{bit_at, output_value, source_value, IsSolution}
@@ -38,9 +38,12 @@ pub record IsPin (d : Design) (inst pin : List ℕ) (source : Source) : Type 0 w
   pub pin_named : p.name ≡ pin
   pub is : p.source ≡ source
 
-pub record IsPortBit (d : Design) (name : List ℕ) (bit : ℕ) : Type 0 where
-  pub within : bit < port_bits d
-  pub named : bit_name d.wires bit ≡ name
+pub record IsPortBit (d : Design) (port : List ℕ) (k bit : ℕ) : Type 0 where
+  pub place : ℕ
+  pub p : Port
+  pub at : slice_get d.ports place ≡ Some p
+  pub named : p.name ≡ port
+  pub is_bit : IsNetBit d.wires bit place k
 
 -- in w the pin reads what it reads from that source in n
 pub record ReadsAt (n w : Design) (values : List Bool) (inst pin : List ℕ) (source : Source) : Type 0 where
@@ -48,15 +51,15 @@ pub record ReadsAt (n w : Design) (values : List Bool) (inst pin : List ℕ) (so
   pub is_pin : IsPin w inst pin there
   pub same : source_value (kept n values) source ≡ source_value values there
 
--- the port bit of that name has that net bit's value in n
-pub record ReadsPort (n w : Design) (values : List Bool) (name : List ℕ) (bit : ℕ) : Type 0 where
+-- in w that bit of the port has that net bit's value in n
+pub record ReadsPort (n w : Design) (values : List Bool) (port : List ℕ) (k bit : ℕ) : Type 0 where
   pub there : ℕ
-  pub is_bit : IsPortBit w name there
+  pub is_bit : IsPortBit w port k there
   pub same : bit_at (kept n values) bit ≡ bit_at values there
 
 pub record ReadsSame (n w : Design) (values : List Bool) : Type 0 where
   pub pins : (inst pin : List ℕ) (source : Source) → IsPin n inst pin source → ReadsAt n w values inst pin source
-  pub ports : (name : List ℕ) (bit : ℕ) → IsPortBit n name bit → ReadsPort n w values name bit
+  pub ports : (port : List ℕ) (k bit : ℕ) → IsPortBit n port k bit → ReadsPort n w values port k bit
 
 pub record IsOnlyExtension (types : List CellType) (rows : List Row) (n w : Design) (old new : List Bool) : Type 0 where
   pub solves : IsSolution types rows w new

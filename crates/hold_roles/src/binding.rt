@@ -53,7 +53,9 @@ fn bound(alloc: Global, netlist: Netlist, library: &Library) -> Result<Bound, St
     Ok(Bound::new(netlist, library, cells, roots))
 }
 
-/// Binds a netlist, which is taken over, to the types of a library, of which a copy is kept.
+/// Binds a netlist, which is taken over, to the types of a library, of which a copy is kept. Refused for a passed limit, else for an
+/// instance of no listed type, for a pin that isn't one of its type's or an output tied to a constant, for a net bit with two
+/// drivers, or for a ring of assignments, each at its first place.
 pub fn bind(alloc: Global, netlist: Netlist, library: &Library) -> Result<Bound, Stop<RoleFault>>
     ensures made { IfOk result (λ bound. bound ≡ binding library.now netlist) }
     ensures sound { OnOk result (IsSound library.now netlist) }
