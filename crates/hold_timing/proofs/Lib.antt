@@ -7,3 +7,7 @@ pub mod Pads
 pub mod Starts
 pub mod Passed
 pub mod Slacks
+pub mod WorstEnds
+pub mod Asked
+pub mod WayBack
+pub mod AtCorners

@@ -120,7 +120,7 @@ spread-within {A} side time_of limit so_far (p ∷ pins) (item ∷ items) pin h 
         (λ t e. subst (IsWithin limit) (same_Some (time_of item) t e) (All-head (λ (x : A). IsWithin limit (time_of x)) item items h)))
     by_test false later = later so_far k
 
-read_below : (table : List (Option ℤ)) (place : ℕ) (time : ℤ) → get_or table place None ≡ Some time → place < length table
+pub read_below : (table : List (Option ℤ)) (place : ℕ) (time : ℤ) → get_or table place None ≡ Some time → place < length table
 read_below [] place time is = absurd (none-some time is)
 read_below (o ∷ table) zero time is = omega arith
 read_below (o ∷ table) (suc place) time is = let rest = read_below table place time is in omega arith

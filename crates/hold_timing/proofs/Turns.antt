@@ -151,14 +151,14 @@ pub record IsAttained (Member : List PinNo → Type 0) (value : List PinNo → �
   pub member : Member path
   pub is : value path ≡ time
 
-gone_on : (side : Side) (parts : Parts) (spans : Spans) (buffers : Buffers) (p : PinNo) (arrivals : List (Option ℤ)) →
+-- along an arc that brings the worst time a walk of the time before goes on as a path of that time
+pub gone_along : (side : Side) (parts : Parts) (spans : Spans) (buffers : Buffers) (p : PinNo) (arrivals : List (Option ℤ)) →
     length spans.arcs ≡ length parts.arcs → AreRightBefore side parts spans buffers p arrivals →
     (arc : Arc) (place : ℕ) → slice_get parts.arcs place ≡ Some arc → arc.to.0 ≡ p.0 → (before time : ℤ) →
     before +ℤ (step_at side spans.arcs place +ℤ added_from side 0 spans.kinds (buffers p)) ≡ time → coming side parts spans buffers arrivals p ≡ Some time →
-    (path : List PinNo) → IsWalkTo parts arc.from path → path_sum side parts spans buffers path ≡ before →
-    IsAttained (IsPathTo parts p) (path_sum side parts spans buffers) time
-gone_on side parts spans buffers p arrivals each right arc place at to before time step is [] walk sum = absurd walk
-gone_on side parts spans buffers p arrivals each right arc place at to before time step is (a ∷ rest) walk sum =
+    (a : PinNo) (rest : List PinNo) → IsWalkTo parts arc.from (a ∷ rest) → path_sum side parts spans buffers (a ∷ rest) ≡ before →
+    IsPathTo parts p (a ∷ (rest ++ p ∷ [])) × (path_sum side parts spans buffers (a ∷ (rest ++ p ∷ [])) ≡ time)
+gone_along side parts spans buffers p arrivals each right arc place at to before time step is a rest walk sum =
     let path : IsPathTo parts p (a ∷ (rest ++ p ∷ [])) = walk_more parts arc.from p a rest walk (arc_there parts.arcs place arc p at to) in
     let on : path_sum side parts spans buffers (a ∷ (rest ++ p ∷ [])) ≡ before +ℤ step_of side parts.arcs spans buffers arc.from p =
     path_sum-push side parts spans buffers a rest p
@@ -168,7 +168,18 @@ gone_on side parts spans buffers p arrivals each right arc place at to before ti
     subst (AsBad side time) on
     (subst (λ (o : Option ℤ). IsAsBad side o (path_sum side parts spans buffers (a ∷ (rest ++ p ∷ [])))) is
     (coming-bound side parts spans buffers p arrivals each right (a ∷ (rest ++ p ∷ [])) path)) in
-    record { path = a ∷ (rest ++ p ∷ []); member = path; is = on ∙ along_worst side parts spans buffers p each place arc at to before time step bound }
+    (path, on ∙ along_worst side parts spans buffers p each place arc at to before time step bound)
+
+gone_on : (side : Side) (parts : Parts) (spans : Spans) (buffers : Buffers) (p : PinNo) (arrivals : List (Option ℤ)) →
+    length spans.arcs ≡ length parts.arcs → AreRightBefore side parts spans buffers p arrivals →
+    (arc : Arc) (place : ℕ) → slice_get parts.arcs place ≡ Some arc → arc.to.0 ≡ p.0 → (before time : ℤ) →
+    before +ℤ (step_at side spans.arcs place +ℤ added_from side 0 spans.kinds (buffers p)) ≡ time → coming side parts spans buffers arrivals p ≡ Some time →
+    (path : List PinNo) → IsWalkTo parts arc.from path → path_sum side parts spans buffers path ≡ before →
+    IsAttained (IsPathTo parts p) (path_sum side parts spans buffers) time
+gone_on side parts spans buffers p arrivals each right arc place at to before time step is [] walk sum = absurd walk
+gone_on side parts spans buffers p arrivals each right arc place at to before time step is (a ∷ rest) walk sum =
+    let on = gone_along side parts spans buffers p arrivals each right arc place at to before time step is a rest walk sum in
+    record { path = a ∷ (rest ++ p ∷ []); member = on.0; is = on.1 }
 
 -- what comes to a pin is the worst sum of all paths to it
 pub coming-worst : (side : Side) (parts : Parts) (spans : Spans) (buffers : Buffers) (p : PinNo) (arrivals : List (Option ℤ)) →

@@ -1,2 +1,4 @@
 pub mod Worst
+pub mod Ends
+pub mod Arrivals
 pub mod inner

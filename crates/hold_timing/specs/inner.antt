@@ -1,1 +1,3 @@
 pub mod Pass
+pub mod Required
+pub mod Search

@@ -16,7 +16,7 @@ use hold_base::{PinNo, Side};
 use hold_graph::{Problem, Spans};
 
 /// What the buffers in front of a pin add.
-fn pad(problem: &Problem, spans: &Spans, side: Side, counts: &[u8], pin: PinNo) -> i64
+pub(crate) fn pad(problem: &Problem, spans: &Spans, side: Side, counts: &[u8], pin: PinNo) -> i64
     requires valid { IsValid problem.now }
     requires corner { IsValidCorner problem.now spans.now }
     requires counts { AreCountsOf problem.now counts.now }

@@ -1,11 +1,19 @@
-ghost use Rattle.std.specs.Prelude.{◌≡◌, ◌<◌, length, slice_index_or, None};
+ghost use Rattle.std.specs.Prelude.{◌≡◌, ◌<◌, length, replicate, slice_index_or, IfOk, None};
 ghost use Rattle.hold_graph.specs.Graph.{AreBelow};
 ghost use Rattle.hold_graph.specs.Sums.{end_of};
 ghost use Rattle.hold_base.specs.declared.number.PinNo.{PinNo as Pin};
 ghost use Rattle.hold_timing.specs.inner.Pass.{spread};
 
 use crate::worse::{end_of, worse};
-use hold_base::{Interval, PinNo, Side};
+use hold_base::{Interval, Memory, PinNo, Side};
+use std::alloc::Global;
+
+/// By pin, no time.
+pub(crate) fn no_times(alloc: Global, pins: u32) -> Result<Vec<Option<i64>>, Memory>
+    ensures { IfOk result (λ table. table.items ≡ replicate pins None) }
+{
+    Ok(vec![in alloc; None; pins as usize]?)
+}
 
 /// To each listed pin in the table, the worse of what stands there and of the ends of its spans.
 pub(crate) fn spread_spans(

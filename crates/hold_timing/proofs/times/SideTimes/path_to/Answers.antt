@@ -1,0 +1,20 @@
+use Rattle.std.proofs.Common.{◌≡◌, ◌∙◌, ap, sym, subst, length, get_or}
+use Rattle.std.specs.Prelude.{List, Option, None, ℤ}
+use Rattle.hold_graph.specs.Sites.{buffers_of}
+use Rattle.hold_timing.specs.Arrivals.{Times}
+use Rattle.hold_timing.specs.Worst.{IsArrival}
+use Rattle.hold_timing.specs.inner.Pass.{sum_limit, AreWithin}
+use Rattle.hold_timing.proofs.times.SideTimes.path_to.Goals as goal
+
+pub path_back-requires-clause-len : goal.path_back-requires-clause-len
+path_back-requires-clause-len c =
+    ap (λ (xs : List (Option ℤ)). length xs) (c.as_slice-arrivals.ensures.value ∙ ap (λ (t : Times). t.arrivals) c.self.view_is)
+    ∙ (c.requires.right c.sites-sites.result.now c.sites-sites.ensures).each
+
+pub path_back-requires-clause-within : goal.path_back-requires-clause-within
+path_back-requires-clause-within c = subst (AreWithin sum_limit) (sym c.as_slice-arrivals.ensures.value) c.self.invariant.0
+
+pub path_back-requires-clause-right : goal.path_back-requires-clause-right
+path_back-requires-clause-right c = λ sites are pin below.
+    subst (λ (xs : List (Option ℤ)). IsArrival c.args.side c.args.problem.now c.args.spans.now (buffers_of (length c.args.problem.now.costs) sites c.args.counts.now) pin (get_or xs pin.0 None))
+    (sym (c.as_slice-arrivals.ensures.value ∙ ap (λ (t : Times). t.arrivals) c.self.view_is)) ((c.requires.right sites are).right pin below)
