@@ -9,4 +9,5 @@ pub mod Entries
 pub mod Doubles
 pub mod FileNames
 pub mod Job
+pub mod Rules
 pub mod inner
