@@ -8,3 +8,10 @@ pub mod FileLemmas
 pub mod Once
 pub mod PartLemmas
 pub mod Given
+pub mod FormLemmas
+pub mod DifferLemmas
+pub mod TypeRules
+pub mod EntryRules
+pub mod OnceRules
+pub mod RuleLemmas
+pub mod LibraryLemmas

@@ -57,7 +57,7 @@ again_repeat place seen (n ∷ ns) e = by (is_among n seen) e (again_repeat (pla
     by true h rest = cc
     by false h rest = rest h
 
-names_of_cells : (types : List ListedType) → map (λ t. t.cell.name) types ≡ type_names (cells_in types)
+pub names_of_cells : (types : List ListedType) → map (λ t. t.cell.name) types ≡ type_names (cells_in types)
 names_of_cells [] = refl
 names_of_cells (t ∷ ts) = ap (λ ns. t.cell.name ∷ ns) (names_of_cells ts)
 

@@ -7,6 +7,7 @@ ghost use Rattle.hold_job.specs.declared.fault.JobFault.{JobFault};
 ghost use Rattle.hold_job.specs.Doubles.{no_doubles};
 ghost use Rattle.hold_job.specs.Job.{job_keys, Gives};
 ghost use Rattle.hold_job.specs.Keys.{known};
+ghost use Rattle.hold_job.specs.Rules.{KeepsRules};
 ghost use Rattle.hold_roles.specs.Types.{first_double};
 ghost use Rattle.hold_job.specs.inner.Parts.{job_by_parts, job_from};
 
@@ -158,6 +159,7 @@ fn job_by_parts(alloc: Global, table: &Table, own: &Name) -> Result<Job, Stop<Jo
 pub fn read(alloc: Global, text: &[u8], own: &Name) -> Result<Job, Stop<JobFault>>
     ensures job { IfOk result (λ job. Gives own.now text.now (Ok job)) }
     ensures fault { IfFault result (λ fault. Gives own.now text.now (Err fault)) }
+    ensures rules { IfOk result (λ job. KeepsRules job) }
     ensures given { (outcome : Result Job JobFault) → Gives own.now text.now outcome → Answers result outcome }
 {
     match toml::de::table_from_slice(alloc, text) {
