@@ -1,13 +1,13 @@
 -- Lists in which nothing stands twice.
-use Rattle.std.proofs.Common.{◌≡◌, ℕ, zero, suc, List, [], ◌∷◌, ◌++◌, map, Bool, true, false, ◌||◌, cond, Option, Some, None, length, refl, ap, sym, ◌∙◌, subst, bytes_eq}
-use Rattle.std.specs.Prelude.{Ok, slice_get, flat_map}
+use Rattle.std.proofs.Common.{◌≡◌, ℕ, zero, suc, List, [], ◌∷◌, ◌++◌, map, Bool, true, false, cond, Some, None, length, refl, ap, sym, ◌∙◌, subst, bytes_eq}
+use Rattle.std.specs.Prelude.{slice_get, flat_map}
 use Rattle.std.specs.List.{AllByRecursion, list_any}
 use Rattle.std.proofs.lemmas.Bool.{or_parts}
 use Rattle.std.proofs.lemmas.List.{map-append}
 use Rattle.std.proofs.lemmas.List.Folds.{list_any-append}
 use Rattle.std.proofs.lemmas.Option.{same_Some}
 use Rattle.hold_base.proofs.Bytes.{bytes_eq-self}
-use Rattle.hold_base.proofs.Lists.{AllByRecursion-append, AllByRecursion-append_left, AllByRecursion-append_right, AllByRecursion-map, AllByRecursion-weaken}
+use Rattle.hold_base.proofs.Lists.{AllByRecursion-append, AllByRecursion-map, AllByRecursion-weaken}
 use Rattle.hold_netlist.specs.Names.{is_among}
 use Rattle.hold_job.specs.Doubles.{again}
 use Rattle.hold_job.specs.Rules.{StandOnce}
@@ -59,20 +59,23 @@ again_rest {A} same seen x xs = by (list_any (same x) seen) refl
 again_new : {A : Type 0} (same : A → A → Bool) (seen xs : List A) → again same seen xs ≡ None → AllByRecursion (λ y. list_any (same y) seen ≡ false) xs
 again_new same seen [] e = tt
 again_new same seen (x ∷ xs) e =
-    let (new, rest) = again_rest same seen x xs e in
-    (new, AllByRecursion-weaken (λ y. list_any (same y) (seen ++ x ∷ []) ≡ false) (λ y. list_any (same y) seen ≡ false)
-      (λ y h. (or_parts (list_any (same y) seen) (list_any (same y) (x ∷ [])) (sym (list_any-append (same y) seen (x ∷ [])) ∙ h)).0) xs
-      (again_new same (seen ++ x ∷ []) xs rest))
+    let (new, rest) = again_rest same seen x xs e in (
+      new,
+      AllByRecursion-weaken (λ y. list_any (same y) (seen ++ x ∷ []) ≡ false) (λ y. list_any (same y) seen ≡ false)
+          (λ y h. (or_parts (list_any (same y) seen) (list_any (same y) (x ∷ [])) (sym (list_any-append (same y) seen (x ∷ [])) ∙ h)).0) xs
+          (again_new same (seen ++ x ∷ []) xs rest),
+    )
 
 -- where items that have one key are the same, no key stands twice
 pub again_Differ : {A K : Type 0} (same : A → A → Bool) (key : A → K) → ((a b : A) → key a ≡ key b → same b a ≡ true) → (seen xs : List A)
     → again same seen xs ≡ None → Differ (map key xs)
 again_Differ same key known seen [] e = tt
 again_Differ {A} same key known seen (x ∷ xs) e =
-    let (new, rest) = again_rest same seen x xs e in
-    (AllByRecursion-map (λ k. key x ≡ k → ⊥) key xs
-      (AllByRecursion-weaken (λ y. list_any (same y) (seen ++ x ∷ []) ≡ false) (λ y. key x ≡ key y → ⊥) other xs (again_new same (seen ++ x ∷ []) xs rest)),
-    again_Differ same key known (seen ++ x ∷ []) xs rest)
+    let (new, rest) = again_rest same seen x xs e in (
+      AllByRecursion-map (λ k. key x ≡ k → ⊥) key xs
+          (AllByRecursion-weaken (λ y. list_any (same y) (seen ++ x ∷ []) ≡ false) (λ y. key x ≡ key y → ⊥) other xs (again_new same (seen ++ x ∷ []) xs rest)),
+      again_Differ same key known (seen ++ x ∷ []) xs rest,
+    )
   where
     other : (y : A) → list_any (same y) (seen ++ x ∷ []) ≡ false → key x ≡ key y → ⊥
     other y none keys =
@@ -94,9 +97,9 @@ module _ {T A K N : Type 0} (parts : T → List A) (key : A → K) (owner : K �
   of_others n (t ∷ ts) own apart =
       subst (AllByRecursion (λ k. owner k ≡ n → ⊥)) (sym (map-append key (parts t) (flat_map parts ts)))
       (AllByRecursion-append (λ k. owner k ≡ n → ⊥) (map key (parts t)) (map key (flat_map parts ts))
-        (AllByRecursion-map (λ k. owner k ≡ n → ⊥) key (parts t)
-          (AllByRecursion-weaken (λ a. owner (key a) ≡ name t) (λ a. owner (key a) ≡ n → ⊥) (λ a is e. apart.0 (sym e ∙ is)) (parts t) own.0))
-        (of_others n ts own.1 apart.1))
+      (AllByRecursion-map (λ k. owner k ≡ n → ⊥) key (parts t)
+      (AllByRecursion-weaken (λ a. owner (key a) ≡ name t) (λ a. owner (key a) ≡ n → ⊥) (λ a is e. apart.0 (sym e ∙ is)) (parts t) own.0))
+      (of_others n ts own.1 apart.1))
 
   -- parts of owners with different names differ, where those of each differ
   pub Differ-parts : (ts : List T) → AllByRecursion Owns ts → AllByRecursion (λ t. Differ (map key (parts t))) ts → Differ (map name ts)
@@ -106,8 +109,8 @@ module _ {T A K N : Type 0} (parts : T → List A) (key : A → K) (owner : K �
       let others = of_others (name t) ts own.1 names.0 in
       subst Differ (sym (map-append key (parts t) (flat_map parts ts)))
       (Differ-append (map key (parts t)) (map key (flat_map parts ts)) each.0 (Differ-parts ts own.1 each.1 names.1)
-        (AllByRecursion-map (λ k. AllByRecursion (λ y. k ≡ y → ⊥) (map key (flat_map parts ts))) key (parts t)
-          (AllByRecursion-weaken (λ a. owner (key a) ≡ name t) (λ a. AllByRecursion (λ y. key a ≡ y → ⊥) (map key (flat_map parts ts)))
-            (λ a is. AllByRecursion-weaken (λ k. owner k ≡ name t → ⊥) (λ k. key a ≡ k → ⊥) (λ k not same. not (ap owner (sym same) ∙ is))
-              (map key (flat_map parts ts)) others)
-            (parts t) own.0)))
+      (AllByRecursion-map (λ k. AllByRecursion (λ y. k ≡ y → ⊥) (map key (flat_map parts ts))) key (parts t)
+      (AllByRecursion-weaken (λ a. owner (key a) ≡ name t) (λ a. AllByRecursion (λ y. key a ≡ y → ⊥) (map key (flat_map parts ts)))
+      (λ a is. AllByRecursion-weaken (λ k. owner k ≡ name t → ⊥) (λ k. key a ≡ k → ⊥) (λ k not same. not (ap owner (sym same) ∙ is))
+      (map key (flat_map parts ts)) others)
+      (parts t) own.0)))

@@ -1,6 +1,6 @@
 -- What the other entries of a job keep that are read: corners, kinds of buffers and clock arrivals.
-use Rattle.std.proofs.Common.{◌≡◌, ℕ, zero, suc, pos, ◌≤ℤ◌, List, [], ◌∷◌, length, Bool, true, false, ◌&&◌, cond, bytes_eq, Option, Some, None, codes, refl, ap, sym, ◌∙◌, subst, arith}
-use Rattle.std.specs.Prelude.{Ok, Err, nat_le, slice_get}
+use Rattle.std.proofs.Common.{◌≡◌, ℕ, suc, pos, ◌≤ℤ◌, List, [], ◌∷◌, length, Bool, true, false, ◌&&◌, cond, bytes_eq, Option, Some, None, codes, refl, ap, sym, ◌∙◌, subst, arith}
+use Rattle.std.specs.Prelude.{Ok, slice_get}
 use Rattle.std.specs.List.{find}
 use Rattle.std.specs.Int.Signed.{≤ℤ_refl, le_z_yes}
 use Rattle.std.proofs.lemmas.Bool.{and_parts}
@@ -10,9 +10,7 @@ use Rattle.hold_netlist.specs.declared.kind.Kind.{Kind}
 use Rattle.hold_roles.specs.declared.role.Role.{Role}
 use Rattle.hold_roles.specs.declared.role.Role.TheVariants.{Comb, Register, Opaque}
 use Rattle.hold_roles.specs.declared.role.CellType.{CellType}
-use Rattle.hold_job.specs.declared.corner.Corner.{Corner}
 use Rattle.hold_job.specs.declared.inst_times.Clock.{Clock}
-use Rattle.hold_job.specs.Outcome.{◌>>=◌}
 use Rattle.hold_job.specs.Keys.{table_of, required}
 use Rattle.hold_job.specs.Lists.{list_within, in_turn}
 use Rattle.hold_job.specs.Names.{text, name}

@@ -1,5 +1,5 @@
 -- What holds of whatever a form gives, and of what stands at a key or in a list that was read by it.
-use Rattle.std.proofs.Common.{◌≡◌, ℕ, ◌+◌, ◌≤◌, ℤ, pos, negsuc, neg_ℤ, ◌≤ℤ◌, int_le, T, List, [], ◌∷◌, ◌++◌, length, All, Bool, true, false, ◌&&◌, cond, Option, Some, None, IfSome, codes, refl, ap, sym, ◌∙◌, subst, arith}
+use Rattle.std.proofs.Common.{◌≡◌, ℕ, ◌+◌, ℤ, pos, negsuc, ◌≤ℤ◌, int_le, T, List, [], ◌∷◌, ◌++◌, length, All, Bool, true, false, ◌&&◌, cond, Option, Some, None, IfSome, codes, refl, ap, sym, ◌∙◌, subst, arith}
 use Rattle.std.specs.Prelude.{Ok, Err, nat_le, Contains}
 use Rattle.std.specs.List.{AllByRecursion}
 use Rattle.std.specs.Fmt.{decimal}

@@ -1,5 +1,5 @@
 -- Types behind those of a job: what was found among the job's is found among all.
-use Rattle.std.proofs.Common.{◌≡◌, List, [], ◌∷◌, ◌++◌, ℕ, Bool, true, false, cond, bytes_eq, Option, Some, ap, sym, ◌∙◌}
+use Rattle.std.proofs.Common.{◌≡◌, List, [], ◌∷◌, ◌++◌, ℕ, Bool, true, false, cond, bytes_eq, Some, ap, ◌∙◌}
 use Rattle.hold_roles.specs.declared.role.CellType.{CellType}
 use Rattle.hold_roles.specs.Types.{type_named}
 use Rattle.hold_job.specs.declared.job.Job.{Job}

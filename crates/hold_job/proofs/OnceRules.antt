@@ -1,5 +1,5 @@
 -- What a job keeps in which nothing stands a second time: its names and pairs differ, and a type is found by its name.
-use Rattle.std.proofs.Common.{◌≡◌, ℕ, zero, suc, ◌+◌, List, [], ◌∷◌, map, bytes_eq, cond, Bool, true, false, Option, Some, None, codes, refl, ap, sym, ◌∙◌, subst}
+use Rattle.std.proofs.Common.{◌≡◌, ℕ, zero, suc, ◌+◌, List, [], ◌∷◌, map, bytes_eq, cond, true, false, Some, codes, refl, ap, sym, ◌∙◌, subst}
 use Rattle.std.specs.Prelude.{Ok, slice_get, flat_map}
 use Rattle.std.specs.List.{AllByRecursion}
 use Rattle.std.specs.Fmt.{decimal}
@@ -17,7 +17,7 @@ use Rattle.hold_job.specs.declared.cell_times.TypeArc.{TypeArc}
 use Rattle.hold_job.specs.declared.cell_times.TypeCheck.{TypeCheck}
 use Rattle.hold_job.specs.declared.listed_type.ListedType.{ListedType}
 use Rattle.hold_job.specs.declared.inst_times.Clock.{Clock}
-use Rattle.hold_job.specs.Outcome.{Outcome, ◌>>=◌, at}
+use Rattle.hold_job.specs.Outcome.{Outcome, at}
 use Rattle.hold_job.specs.Doubles.{again, second, once, same_ends, arcs_once, checks_once, of_each, no_doubles}
 use Rattle.hold_job.specs.inner.Listed.{cells_in}
 use Rattle.hold_job.proofs.Once.{led_on, at_Ok, second_none, no_doubles_parts, names_of_cells}
@@ -77,11 +77,11 @@ all_differ corners types kinds clocks rules e =
       by_inst = once_Differ (codes "inst") (map (λ (c : Clock). c.inst) clocks) once.by_inst;
       by_ends = Differ-parts (λ (t : ListedType). t.arcs) arc_key (λ k. k.0) (λ t. t.cell.name) types
           (AllByRecursion-weaken (KeepsListedRules corners) (λ t. AllByRecursion (λ a. a.kind ≡ t.cell.name) t.arcs)
-            (λ t h. AllByRecursion-weaken (IsListedArc corners t.cell) (λ a. a.kind ≡ t.cell.name) (λ a i. i.named) t.arcs h.arcs) types rules)
+          (λ t h. AllByRecursion-weaken (IsListedArc corners t.cell) (λ a. a.kind ≡ t.cell.name) (λ a i. i.named) t.arcs h.arcs) types rules)
           (AllByRecursion-weaken (λ t. arcs_once t ≡ Ok tt) (λ t. Differ (map arc_key t.arcs)) arcs_Differ types (of_each_Ok arcs_once 0 types once.by_ends)) names;
       by_pin = Differ-parts (λ (t : ListedType). t.checks) check_key (λ k. k.0) (λ t. t.cell.name) types
           (AllByRecursion-weaken (KeepsListedRules corners) (λ t. AllByRecursion (λ c. c.kind ≡ t.cell.name) t.checks)
-            (λ t h. AllByRecursion-weaken (IsListedCheck corners t.cell) (λ c. c.kind ≡ t.cell.name) (λ c i. i.named) t.checks h.checks) types rules)
+          (λ t h. AllByRecursion-weaken (IsListedCheck corners t.cell) (λ c. c.kind ≡ t.cell.name) (λ c i. i.named) t.checks h.checks) types rules)
           (AllByRecursion-weaken (λ t. checks_once t ≡ Ok tt) (λ t. Differ (map check_key t.checks)) checks_Differ types (of_each_Ok checks_once 0 types once.by_pin)) names;
     }
 
@@ -96,7 +96,7 @@ type_named_at (u ∷ us) zero t h at =
 type_named_at (u ∷ us) (suc k) t h at =
     let name_at : slice_get (type_names us) k ≡ Some t.name = slice_get-map (λ (v : CellType). v.name) us k ∙ ap (option_map (λ (v : CellType). v.name)) at in
     let apart : bytes_eq t.name u.name ≡ false =
-        false_from_ne_true (bytes_eq t.name u.name) (λ same. at_place (λ y. u.name ≡ y → ⊥) (type_names us) k t.name h.0 name_at (sym (bytes_eq-same t.name u.name same))) in
+    false_from_ne_true (bytes_eq t.name u.name) (λ same. at_place (λ y. u.name ≡ y → ⊥) (type_names us) k t.name h.0 name_at (sym (bytes_eq-same t.name u.name same))) in
     ap (λ b. cond b (Some u) (type_named t.name us)) apart ∙ type_named_at us k t h.1 at
 
 each_place : {A : Type 0} (P : A → Type 0) (xs : List A) → ((k : ℕ) (x : A) → slice_get xs k ≡ Some x → P x) → AllByRecursion P xs

@@ -1,5 +1,5 @@
 -- A job that a text gives keeps the rules.
-use Rattle.std.proofs.Common.{◌≡◌, ℕ, pos, ◌≤ℤ◌, ◌≤◌, List, [], ◌∷◌, length, map, All, IfSome, Some, codes, refl, sym, ◌∙◌, subst, arith, inl, inr}
+use Rattle.std.proofs.Common.{◌≡◌, ℕ, pos, ◌≤ℤ◌, ◌≤◌, List, [], ◌∷◌, length, map, All, IfSome, Some, codes, sym, ◌∙◌, subst, arith, inl, inr}
 use Rattle.std.specs.Prelude.{Ok, Err, flat_map}
 use Rattle.std.specs.List.{AllByRecursion}
 use Rattle.std.specs.Int.Signed.{≤ℤ_refl}
@@ -9,7 +9,6 @@ use Rattle.hold_base.specs.Limits.{time_limit, chain_limit, types_limit, kinds_l
 use Rattle.hold_base.specs.declared.time.Interval.{Interval}
 use Rattle.hold_base.proofs.Lists.{AllByRecursion-weaken, AllByRecursion-map, AllByRecursion-flat_map}
 use Rattle.hold_netlist.specs.declared.kind.Kind.{Kind}
-use Rattle.hold_roles.specs.declared.role.CellType.{CellType}
 use Rattle.hold_roles.specs.Types.{type_names, type_named}
 use Rattle.toml.specs.Data.{Members}
 use Rattle.hold_job.specs.declared.cell_times.TypeArc.{TypeArc}
@@ -21,7 +20,7 @@ use Rattle.hold_job.specs.declared.files.Files.{Files}
 use Rattle.hold_job.specs.declared.settings.Settings.{Settings}
 use Rattle.hold_job.specs.declared.listing.Listing.{Listing}
 use Rattle.hold_job.specs.Limits.{nodes_limit, searchers_limit, order_limit, usual_chain, usual_nodes, usual_searchers, usual_order}
-use Rattle.hold_job.specs.Outcome.{Outcome, ◌>>=◌}
+use Rattle.hold_job.specs.Outcome.{Outcome}
 use Rattle.hold_job.specs.Keys.{known, required, or_else, if_any}
 use Rattle.hold_job.specs.Lists.{every, every_within}
 use Rattle.hold_job.specs.Numbers.{number, earliest, spans}
@@ -35,7 +34,7 @@ use Rattle.hold_job.specs.inner.Parts.{files_in, settings_in, listing_in, job_fr
 use Rattle.hold_job.proofs.Once.{led_on}
 use Rattle.hold_job.proofs.PartLemmas.{job_by_parts_is}
 use Rattle.hold_job.specs.Rules.{IsInRange, AreSpans, AreValues, KeepsTypeRules, IsArcIn, IsCheckIn, IsKindIn, KeepsNumbers, KeepsLengths, KeepsTimes, KeepsNames, KeepsOnce, KeepsRules, arc_key, check_key}
-use Rattle.hold_job.proofs.FormLemmas.{same_Ok, required_Ok, or_else_Ok, if_any_Ok, every_Ok, every_within_Ok, IsListWithin, number_Ok, AreSpansFrom, spans_Ok}
+use Rattle.hold_job.proofs.FormLemmas.{same_Ok, required_Ok, or_else_Ok, if_any_Ok, every_Ok, every_within_Ok, IsListWithin, number_Ok, spans_Ok}
 use Rattle.hold_job.proofs.DifferLemmas.{Differ-once}
 use Rattle.hold_job.proofs.TypeRules.{IsListedArc, IsListedCheck, KeepsListedRules, type_of_Ok}
 use Rattle.hold_job.proofs.EntryRules.{corners_of_Ok, IsListedKind, kind_of_Ok, clock_of_Ok}
@@ -98,11 +97,11 @@ listing_Ok ms l e =
     let n = length corners in
     let made : Listing = record { corners = corners; arrival = arrival; types = types; kinds = kinds; clocks = clocks; keeps = keeps } in
     let typed = or_else_Ok (every_within 0 types_limit (type_of n)) (IsListWithin 0 types_limit (KeepsListedRules n))
-        (every_within_Ok 0 types_limit (type_of n) (KeepsListedRules n) (type_of_Ok n)) []
-        (record { count = record { low = omega arith; high = omega arith }; all = tt }) (codes "type") ms types three in
+    (every_within_Ok 0 types_limit (type_of n) (KeepsListedRules n) (type_of_Ok n)) []
+    (record { count = record { low = omega arith; high = omega arith }; all = tt }) (codes "type") ms types three in
     let buffers = or_else_Ok (every_within 0 kinds_limit (kind_of n (cells_in types))) (IsListWithin 0 kinds_limit (IsListedKind n (cells_in types)))
-        (every_within_Ok 0 kinds_limit (kind_of n (cells_in types)) (IsListedKind n (cells_in types)) (kind_of_Ok n (cells_in types))) []
-        (record { count = record { low = omega arith; high = omega arith }; all = tt }) (codes "kind") ms kinds four in
+    (every_within_Ok 0 kinds_limit (kind_of n (cells_in types)) (IsListedKind n (cells_in types)) (kind_of_Ok n (cells_in types))) []
+    (record { count = record { low = omega arith; high = omega arith }; all = tt }) (codes "kind") ms kinds four in
     subst ListingKeep (same_Ok made l is) (record {
       corners = required_Ok corners_of (λ cs. IsInRange 1 corners_limit (length cs)) corners_of_Ok (codes "corner") ms corners one;
       arrival = arrival_Ok n ms arrival two;

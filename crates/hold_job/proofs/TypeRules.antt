@@ -1,5 +1,5 @@
 -- What a type keeps that is read.
-use Rattle.std.proofs.Common.{◌≡◌, ℕ, List, [], ◌∷◌, ◌++◌, Bool, true, false, not, ◌&&◌, bytes_eq, Option, Some, None, codes, refl, ap, sym, ◌∙◌, subst}
+use Rattle.std.proofs.Common.{◌≡◌, ℕ, List, [], ◌∷◌, ◌++◌, Bool, true, false, not, ◌&&◌, bytes_eq, Some, None, codes, refl, ap, sym, ◌∙◌, subst}
 use Rattle.std.specs.Prelude.{Ok, Contains}
 use Rattle.std.specs.List.{AllByRecursion}
 use Rattle.std.specs.Int.Signed.{≤ℤ_refl}
@@ -12,11 +12,11 @@ use Rattle.hold_netlist.specs.Names.{is_among}
 use Rattle.hold_roles.specs.declared.role.Role.{Role}
 use Rattle.hold_roles.specs.declared.role.Role.TheVariants.{Comb, Register, Opaque}
 use Rattle.hold_roles.specs.declared.role.CellType.{CellType}
-use Rattle.toml.specs.Data.{Data, Members, as_table}
+use Rattle.toml.specs.Data.{Members, as_table}
 use Rattle.hold_job.specs.declared.cell_times.TypeArc.{TypeArc}
 use Rattle.hold_job.specs.declared.cell_times.TypeCheck.{TypeCheck}
 use Rattle.hold_job.specs.declared.listed_type.ListedType.{ListedType}
-use Rattle.hold_job.specs.Outcome.{◌>>=◌, of_kind, in_rule}
+use Rattle.hold_job.specs.Outcome.{of_kind, in_rule}
 use Rattle.hold_job.specs.Keys.{table_of, known, required, or_else}
 use Rattle.hold_job.specs.Lists.{list_of, in_turn, every}
 use Rattle.hold_job.specs.Names.{text, name, is_name, new_name, one_of}
@@ -124,7 +124,7 @@ comb_in_Ok corners kind ms t e =
     let made : ListedType = record { cell = cell; arcs = arcs; checks = [] } in
     let differ : Differ (inputs ++ outputs) = more_pins inputs (more_pins [] tt (codes "inputs") ms inputs one) (codes "outputs") ms outputs two in
     let read = or_else_Ok (every (arc_of corners kind inputs outputs)) (AllByRecursion (IsArcBetween corners kind inputs outputs))
-        (every_Ok (arc_of corners kind inputs outputs) (IsArcBetween corners kind inputs outputs) (arc_of_Ok corners kind inputs outputs)) [] tt (codes "arcs") ms arcs three in
+    (every_Ok (arc_of corners kind inputs outputs) (IsArcBetween corners kind inputs outputs) (arc_of_Ok corners kind inputs outputs)) [] tt (codes "arcs") ms arcs three in
     subst (KeepsListedRules corners) (same_Ok made t is) (record {
       cell = record { role = (refl {a = None}, refl {a = []}); pins = Differ-once (inputs ++ outputs) differ };
       arcs = AllByRecursion-weaken (IsArcBetween corners kind inputs outputs) (IsListedArc corners cell) (λ arc h. record {
@@ -155,10 +155,10 @@ register_in_Ok corners kind ms t e =
     let with_outputs : Differ (clock ∷ (checked ++ quiet ++ outputs)) = more_pins (clock ∷ (checked ++ quiet)) with_quiet (codes "outputs") ms outputs three in
     let differ : Differ (clock ∷ (checked ++ (quiet ++ outputs))) = subst (λ ys. Differ (clock ∷ ys)) (append_assoc checked quiet outputs) with_outputs in
     let read = or_else_Ok (every (arc_of corners kind (clock ∷ []) outputs)) (AllByRecursion (IsArcBetween corners kind (clock ∷ []) outputs))
-        (every_Ok (arc_of corners kind (clock ∷ []) outputs) (IsArcBetween corners kind (clock ∷ []) outputs) (arc_of_Ok corners kind (clock ∷ []) outputs))
-        [] tt (codes "arcs") ms arcs four in
+    (every_Ok (arc_of corners kind (clock ∷ []) outputs) (IsArcBetween corners kind (clock ∷ []) outputs) (arc_of_Ok corners kind (clock ∷ []) outputs))
+    [] tt (codes "arcs") ms arcs four in
     let tested = or_else_Ok (every (check_of corners kind checked)) (AllByRecursion (IsCheckAt corners kind checked))
-        (every_Ok (check_of corners kind checked) (IsCheckAt corners kind checked) (check_of_Ok corners kind checked)) [] tt (codes "checks") ms checks five in
+    (every_Ok (check_of corners kind checked) (IsCheckAt corners kind checked) (check_of_Ok corners kind checked)) [] tt (codes "checks") ms checks five in
     subst (KeepsListedRules corners) (same_Ok made t is) (record {
       cell = record { role = refl {a = true}; pins = Differ-once (clock ∷ (checked ++ (quiet ++ outputs))) differ };
       arcs = AllByRecursion-weaken (IsArcBetween corners kind (clock ∷ []) outputs) (IsListedArc corners cell) (λ arc h. record {

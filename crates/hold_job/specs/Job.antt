@@ -5,8 +5,8 @@
 --   second time, then of two files of one name. own is the name of the job's own file.
 -- top fault, at_top o: the fault as it is told of a job, whose paths have no point in front.
 -- job_of own ms: the job or the fault that the members give, so told.
--- IsTree text tree: the text is TOML, and that is its tree. HasNoTree text: it isn't TOML.
--- Gives own text outcome: what the text of the job file of that name gives. There is exactly one such job or fault at most.
+-- IsTree text tree: the text is UTF-8 and TOML, and that is its tree. HasNoTree text: it isn't UTF-8, or it is and isn't TOML.
+-- Gives own text outcome: what the text of the job file of that name gives: exactly one job or one fault.
 use Rattle.std.specs.Prelude.{◌≡◌, ℕ, pos, List, [], ◌∷◌, ◌⊎◌, length, map, flat_map, drop, codes, Some, None, Ok, Err, IsUtf8}
 use Rattle.toml.specs.Data.{Members}
 use Rattle.toml.specs.Parse.{parse_document}

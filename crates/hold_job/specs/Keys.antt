@@ -1,7 +1,7 @@
 -- Looking into a table by its keys. What a value gives is told by a form: its kind and its rule.
 --
 -- Form A: what a value gives.
--- unknown keys ms: the first key, in byte order, that isn't one of these.
+-- unknown keys ms: the key of the first member that isn't one of these. The members of a tree's tables stand in byte order of their keys.
 -- known keys ms: a fault at that key; nothing of note where each key is one of these.
 -- table_of keys d: the members of a table, whose keys are all known.
 -- required form key ms: what the value at the key gives. The key may not be missing.

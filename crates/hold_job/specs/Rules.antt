@@ -17,7 +17,7 @@
 -- KeepsOnce job: nothing stands in it a second time: no type's name, no kind's type, no clock's instance, no arc and no check.
 -- KeepsRules job: it keeps all of these.
 -- KeepsTypesOf job types: the types begin with the job's, and each of them keeps the rules of types.
-use Rattle.std.specs.Prelude.{◌≡◌, ◌≤◌, ℕ, ℤ, pos, ◌≤ℤ◌, List, [], ◌∷◌, ◌++◌, length, map, slice_get, option_to_list, All, Contains, Option, Some, None, IsSome, IfSome}
+use Rattle.std.specs.Prelude.{◌≡◌, ◌≤◌, ℕ, ℤ, pos, ◌≤ℤ◌, List, [], ◌∷◌, ◌++◌, length, map, slice_get, option_to_list, All, Contains, Some, None, IsSome, IfSome}
 use Rattle.hold_base.specs.Limits.{time_limit, chain_limit, corners_limit, kinds_limit, cost_limit}
 use Rattle.hold_base.specs.declared.time.Interval.{Interval}
 use Rattle.hold_graph.specs.Problem.{IsWithin, IsSpan}

@@ -14,7 +14,7 @@ pub enum JobFault {
     /// The value at this path is of its kind and breaks its rule.
     #[error("a value breaks its rule")]
     Range(Name),
-    /// What stands at this path stands there a second time.
+    /// Two entries are alike that may not be. The path is that of the key by which they are, in the later one.
     #[error("an entry stands twice")]
     Double(Name),
     /// A file that is to be written has the name of another one that the job speaks of.

@@ -155,7 +155,9 @@ fn job_by_parts(alloc: Global, table: &Table, own: &Name) -> Result<Job, Stop<Jo
     Ok(job_from(alloc, files, settings, listing)?)
 }
 
-/// The job that a text gives. `own` is the name of the file that the text stands in.
+/// The job that a text gives, which keeps the rules of jobs. `own` is the name of the file that the text stands in. The text is
+/// refused where it isn't TOML, else at the first key or value at fault, else for the first entry that stands twice, else where a
+/// file that is written has the name of another file.
 pub fn read(alloc: Global, text: &[u8], own: &Name) -> Result<Job, Stop<JobFault>>
     ensures job { IfOk result (λ job. Gives own.now text.now (Ok job)) }
     ensures fault { IfFault result (λ fault. Gives own.now text.now (Err fault)) }
