@@ -1,0 +1,3 @@
+pub mod NoBuffers
+pub mod OneEnd
+pub mod Rows
