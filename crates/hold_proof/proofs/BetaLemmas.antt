@@ -1,6 +1,6 @@
 -- The least value of a leaf over a box, from its factors.
 use Rattle.std.proofs.Common.{◌≡◌, ℕ, zero, suc, ◌+◌, ◌*◌, ◌<◌, ◌≤◌, List, [], ◌∷◌, length, replicate, refl, sym, ap, ◌∙◌, subst, ◌↔◌, arith}
-use Rattle.std.specs.Prelude.{Option, Some, None, All, ℤ, pos, ◌+ℤ◌, ◌-ℤ◌, ◌*ℤ◌, ◌≤ℤ◌}
+use Rattle.std.specs.Prelude.{Bool, IsTrue, Option, Some, None, All, ℤ, pos, ◌+ℤ◌, ◌-ℤ◌, ◌*ℤ◌, ◌≤ℤ◌}
 use Rattle.std.proofs.lemmas.Int.{ints}
 use Rattle.std.proofs.lemmas.List.{length-replicate}
 use Rattle.hold_base.specs.declared.number.PinNo.{PinNo}
@@ -17,10 +17,10 @@ use Rattle.hold_proof.specs.Values.{leaf_value, IsBeta}
 use Rattle.hold_proof.specs.Closing.{IsFit, IsAbove, Closes}
 use Rattle.hold_proof.specs.inner.Forms.{form_value, terms_value, added}
 use Rattle.hold_proof.specs.inner.Gaps.{gaps}
-use Rattle.hold_proof.specs.inner.LeafTerms.{leaf_terms}
+use Rattle.hold_proof.specs.inner.LeafTerms.{leaf_free, leaf_terms}
 use Rattle.hold_proof.proofs.FormLemmas.{AreBelow, form_value-added, length-added}
 use Rattle.hold_proof.proofs.GapLemmas.{gaps-bound, gaps-attained}
-use Rattle.hold_proof.proofs.TermLemmas.{leaf_free, leaf_value-terms}
+use Rattle.hold_proof.proofs.TermLemmas.{leaf_value-terms}
 use Rattle.hold_proof.proofs.VarLemmas.{leaf_terms-below}
 
 form_value-none : (n : ℕ) (counts : List ℕ) → form_value (replicate n (pos 0)) counts ≡ pos 0
@@ -97,10 +97,10 @@ beta-one problem sites paths leaf box a b first second =
     omega (arith, ints, less, more, a_is, b_is)
 
 -- so a fit leaf closes exactly where that value is above what is asked
-pub closes-above : (problem : Problem) (sites : List PinNo) (paths : List Listed) (force : InForce) (leaf : Leaf) → IsValid problem → IsFit problem sites paths leaf → IsBox problem sites force.within →
-    IsAbove leaf.scale force.below (leaf_beta problem sites paths force.within leaf) ↔ Closes problem sites paths force leaf
-closes-above problem sites paths force leaf valid fit is_box =
-    let is = leaf_beta-is problem sites paths force.within leaf valid fit is_box in (
-      λ above. record { fit = fit; beta = leaf_beta problem sites paths force.within leaf; least = is; above = above },
-      λ closes. subst (IsAbove leaf.scale force.below) (beta-one problem sites paths leaf force.within closes.beta (leaf_beta problem sites paths force.within leaf) closes.least is) closes.above,
+pub closes-above : (problem : Problem) (sites given : List PinNo) (paths : List Listed) (force : InForce) (leaf : Leaf) (beta : ℤ) (test : Bool) → sites ≡ given → IsFit problem sites paths leaf →
+    IsBeta problem sites paths leaf force.within beta → IsTrue test ↔ IsAbove leaf.scale force.below beta → IsTrue test ↔ Closes problem given paths force leaf
+closes-above problem sites given paths force leaf beta test same fit is tested =
+    subst (λ s. IsTrue test ↔ Closes problem s paths force leaf) same (
+      λ true. record { fit = fit; beta = beta; least = is; above = tested.0 true },
+      λ closes. tested.1 (subst (IsAbove leaf.scale force.below) (beta-one problem sites paths leaf force.within closes.beta beta closes.least is) closes.above),
     )

@@ -16,5 +16,7 @@ pub mod SiteLemmas
 pub mod StepLemmas
 pub mod ExcessLemmas
 pub mod RoomLemmas
+pub mod WeighLemmas
+pub mod WorkLemmas
 pub mod Soundness
 pub mod TreeExamples

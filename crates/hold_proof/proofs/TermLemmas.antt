@@ -20,7 +20,7 @@ use Rattle.hold_graph.specs.Sites.{count_at, buffers_of, chain_sum, cost_of}
 use Rattle.hold_proof.specs.declared.node.Leaf.{Leaf}
 use Rattle.hold_proof.specs.Values.{excess_in, listed_excess, paths_value, chains_value, leaf_value}
 use Rattle.hold_proof.specs.inner.Forms.{terms_value}
-use Rattle.hold_proof.specs.inner.LeafTerms.{gain, gains_from, gains_sum, var_terms, site_terms, site_at, pins_terms, path_numbers, path_terms, corner_terms, listed_terms, paths_terms, chains_terms, leaf_terms, corner_free, free_excess, paths_free, chains_free}
+use Rattle.hold_proof.specs.inner.LeafTerms.{gain, gains_from, gains_sum, var_terms, site_terms, site_at, pins_terms, path_numbers, path_terms, corner_terms, listed_terms, paths_terms, chains_terms, leaf_terms, corner_free, free_excess, paths_free, chains_free, leaf_free}
 use Rattle.hold_proof.proofs.Products.{times-add_right, times-sub_right, times-neg_left, times-times}
 
 pub terms_value-append : (first rest : List (ℕ × ℤ)) (counts : List ℕ) → terms_value (first ++ rest) counts ≡ terms_value first counts +ℤ terms_value rest counts
@@ -180,10 +180,6 @@ chains_value-terms problem counts (term ∷ terms) =
     let split = terms_value-append (site_terms (length problem.costs) (Some term.0.0) (replicate (length problem.costs) (pos term.1))) (chains_terms (length problem.costs) terms) counts in
     let whole = times-sub_right (pos term.1) (pos problem.max_chain) (pos (chain_sum (length problem.costs) counts term.0.0)) in
     omega (arith, ints, product, same, rest, split, whole)
-
--- what a leaf is without any buffers
-abbrev pub leaf_free : Problem → List Listed → Leaf → ℤ
-leaf_free problem paths leaf = paths_free problem paths leaf.paths +ℤ chains_free problem.max_chain leaf.chains
 
 pub leaf_value-terms : (problem : Problem) (sites : List PinNo) (paths : List Listed) (leaf : Leaf) (counts : List ℕ) →
     leaf_value problem sites paths leaf counts

@@ -7,3 +7,5 @@ pub mod Judging
 pub mod Walk
 pub mod Places
 pub mod Over
+pub mod Basis
+pub mod Fitness

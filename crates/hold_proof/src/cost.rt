@@ -13,7 +13,7 @@ fn cost_of_var(costs: &[u64], var: usize) -> u64
 
 /// The cost of counts, one for each variable.
 pub(crate) fn cost_of(costs: &[u64], counts: &[u8]) -> u64
-    requires some { 0 < length costs.now }
+    requires kinds { 0 < length counts.now → 0 < length costs.now }
     requires costs { All (λ cost. cost ≤ cost_limit) costs.now }
     requires few { length counts.now ≤ vars_limit }
     ensures { result ≡ cost_of costs.now counts.now }

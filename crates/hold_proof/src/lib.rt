@@ -1,8 +1,10 @@
 //! Proofs that no cheaper buffers do: trees of splits and leaves over boxes of counts, and what a tree bounds.
 #![tactic(auto)]
 
+mod basis;
 mod certificate;
 mod claim;
+mod closing;
 mod cost;
 mod excess;
 mod factors;
@@ -12,13 +14,16 @@ mod node;
 mod paths;
 mod places;
 mod scratch;
+mod settling;
 mod shape;
 mod short;
 mod walk;
+mod weighing;
 mod wide;
 
 pub use certificate::Certificate;
 pub use claim::Claim;
+pub use closing::closes;
 pub use flaw::TreeFlaw;
 pub use node::{Leaf, Node};
 pub use scratch::Scratch;

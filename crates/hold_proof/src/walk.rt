@@ -38,7 +38,7 @@ pub(crate) fn walk_from(
     low: &[u8],
     high: &[u8],
 ) -> Result<Walk, Memory>
-    requires some { 0 < length costs.now }
+    requires kinds { 0 < length low.now → 0 < length costs.now }
     requires costs { All (λ cost. cost ≤ cost_limit) costs.now }
     requires few { length low.now ≤ vars_limit }
     requires each { length low.now ≡ length high.now }
@@ -102,7 +102,7 @@ impl Walk {
 
     /// Goes from a leaf to the next box, or to the end where none is left.
     pub(crate) fn leave(&mut self, costs: &[u64]) -> Result<(), Memory>
-        requires some { 0 < length costs.now }
+        requires kinds { 0 < length self.old.low.items → 0 < length costs.now }
         requires costs { All (λ cost. cost ≤ cost_limit) costs.now }
         requires few { length self.old.low.items ≤ vars_limit }
         requires walk { IsWalk costs.now (length self.old.low.items) self.old }

@@ -10,7 +10,7 @@
 -- path_numbers side times kinds: what a path takes from a site's variables, if it is taken so often: minus so many gains.
 -- path_terms, listed_terms, paths_terms: the terms of a path, of a listed one, of a leaf's listed paths. Its first pin has none.
 -- chains_terms: the terms of a leaf's sites. leaf_terms: all terms of a leaf.
--- free_excess, paths_free, chains_free: what is left of excesses, and of what the chain limits leave, without any buffers.
+-- free_excess, paths_free, chains_free, leaf_free: what is left of excesses, and of what the chain limits leave, without any buffers.
 -- vars_from, site_vars, pins_vars, path_vars, listed_vars, paths_vars, chains_vars, leaf_vars: the variables of these terms.
 use Rattle.std.specs.Prelude.{ℕ, zero, suc, ◌+◌, ◌*◌, ◌==◌, List, [], ◌∷◌, ◌++◌, length, map, replicate, flat_map, position, Option, Some, None, slice_get, ℤ, pos, neg_ℤ, ◌+ℤ◌, ◌*ℤ◌}
 use Rattle.hold_base.specs.declared.number.PathNo.{PathNo}
@@ -93,6 +93,9 @@ paths_free problem paths (term ∷ terms) = (pos term.1 *ℤ free_excess problem
 abbrev pub chains_free : ℕ → List (SiteNo × ℕ) → ℤ
 chains_free max_chain [] = pos 0
 chains_free max_chain (term ∷ terms) = pos (term.1 * max_chain) +ℤ chains_free max_chain terms
+
+abbrev pub leaf_free : Problem → List Listed → Leaf → ℤ
+leaf_free problem paths leaf = paths_free problem paths leaf.paths +ℤ chains_free problem.max_chain leaf.chains
 
 -- the variables of the terms
 abbrev pub vars_from : ℕ → ℕ → List ℕ
