@@ -1,13 +1,11 @@
 -- A problem in which everything takes no time is valid.
 use Rattle.std.proofs.Common.{◌≡◌, ℕ, ◌≤◌, [], ◌∷◌, length, ap, ◌∙◌, subst, sym, arith}
-use Rattle.std.specs.Prelude.{All, ℤ, pos, ◌≤ℤ◌}
+use Rattle.std.specs.Prelude.{All, pos, ◌≤ℤ◌}
 use Rattle.std.proofs.lemmas.Int.{ints}
 use Rattle.std.proofs.lemmas.List.{length-replicate}
 use Rattle.std.proofs.lemmas.List.Elements.{All-nil, All-cons, All-replicate}
-use Rattle.hold_base.specs.Interval.{IsOrdered}
 use Rattle.hold_base.specs.Limits.{time_limit, launch_limit, bound_pins_limit, arcs_limit, cost_limit}
 use Rattle.hold_base.specs.declared.time.Interval.{Interval}
-use Rattle.hold_graph.specs.declared.problem.Spans.{Spans}
 use Rattle.hold_graph.specs.declared.problem.Problem.{Problem}
 use Rattle.hold_graph.specs.Problem.{IsWithin, IsSpan, IsValid, IsValidCorner}
 use Rattle.hold_graph_tests.specs.Zero.{zero_span, zero_spans}
