@@ -85,9 +85,6 @@ length-le (x ∷ xs) ys once has =
 
 -- ---- lists of exactly what a property holds of
 
-pub ListsEach-nil : {X : Type 0} (P : X → Type 0) → ((x : X) → P x → ⊥) → ListsEach P []
-ListsEach-nil {X} P none = record { sound = λ k d lt. absurd (omega arith); whole = λ x p. absurd (none x p); once = StandsOnce-nil {X = X} }
-
 module _ {X : Type 0} (P Q : X → Type 0) where
   pub ListsEach-same : (xs : List X) → ((x : X) → P x → Q x) → ((x : X) → Q x → P x) → ListsEach P xs → ListsEach Q xs
   ListsEach-same xs there back h = record { sound = All-weaker P Q there xs h.sound; whole = λ x q. h.whole x (back x q); once = h.once }

@@ -72,9 +72,6 @@ pub record Reads (s : SoFar) (lines : Lines) : Type 0 where
   pub at : IsAt s.stage s
   pub sound : IsSound s
 
-pub reads-start : Reads start []
-reads-start = record { are = refl; at = refl; sound = record { cost = tt; counts = refl; paths = tt; nodes = tt; trees = refl } }
-
 -- one line more
 abbrev with_line : Lines → List ℕ → Lines
 with_line lines line = lines ++ line ∷ []

@@ -130,13 +130,3 @@ upper-is_box problem sites box var at h place = record {
   ordered = ordered-upper box.low box.high var.0 at h.ordered place.below_high;
   most = h.most;
 }
-
-lows-within : (lows highs : List ℕ) → AreOrdered lows highs → AreWithin lows highs lows
-lows-within [] [] h = tt
-lows-within [] (high ∷ highs) h = absurd h
-lows-within (low ∷ lows) [] h = absurd h
-lows-within (low ∷ lows) (high ∷ highs) h = (omega arith, h.0, lows-within lows highs h.1)
-
--- a box has a point: its lows
-pub lows-point : (problem : Problem) (sites : List PinNo) (box : Boxed) → IsBox problem sites box → IsPoint box box.low
-lows-point problem sites box h = lows-within box.low box.high h.ordered

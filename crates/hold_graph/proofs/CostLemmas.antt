@@ -1,6 +1,6 @@
 -- How many variables a problem has, and how large a sum of costs can be.
 use Rattle.std.proofs.Common.{ℕ, zero, suc, ◌*◌, ◌^◌, ◌<◌, ◌≤◌, List, length, arith}
-use Rattle.std.proofs.Math.Nat.{mul-le-mul_left, mul-le-mul_right}
+use Rattle.std.proofs.Math.Nat.{mul-le-mul_left}
 use Rattle.hold_base.specs.declared.number.PinNo.{PinNo}
 use Rattle.hold_graph.specs.declared.graph.Parts.{Parts}
 use Rattle.hold_graph.specs.declared.problem.Problem.{Problem}
@@ -25,8 +25,3 @@ variables-few problem sites valid few =
 pub kinds-some : (sites kinds : ℕ) → 0 < sites * kinds → 0 < kinds
 kinds-some sites zero some = absurd (omega arith)
 kinds-some sites (suc kinds) some = omega arith
-
-product-most : (a b : ℕ) → a ≤ 16 → b ≤ 1000000 → a * b ≤ 16000000
-product-most a b low high =
-    let left : a * b ≤ 16 * b = mul-le-mul_right b low in
-    omega (arith, left)

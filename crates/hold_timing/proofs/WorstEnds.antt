@@ -113,18 +113,6 @@ worst_end-missed side problem spans buffers found end worst is below =
     let e : excess side problem spans buffers path.0 ≡ end.slack = ap (λ (x : End). x.slack) path.2 in
     (path.0, path.1, omega (arith, ints, e, below))
 
-pub worst_end-met : (side : Side) (problem : Problem) (spans : Spans) (buffers : Buffers) (found : Option End) (end : End) → IsWorstEnd side problem spans buffers found →
-    found ≡ Some end → pos 0 ≤ℤ end.slack → IsMetAt side problem spans buffers
-worst_end-met side problem spans buffers found end worst is above path checked =
-    let h : IsBefore (Some end) (end_of_path side problem spans buffers path) = subst (λ (o : Option End). IsBefore o (end_of_path side problem spans buffers path)) is (worst.bound path checked) in
-    let le : end.slack ≤ℤ excess side problem spans buffers path = h.0 in
-    omega (arith, ints, le, above)
-
-pub worst_end-none : (side : Side) (problem : Problem) (spans : Spans) (buffers : Buffers) (found : Option End) → IsWorstEnd side problem spans buffers found →
-    found ≡ None → IsMetAt side problem spans buffers
-worst_end-none side problem spans buffers found worst is path checked =
-    absurd (subst (λ (o : Option End). IsBefore o (end_of_path side problem spans buffers path)) is (worst.bound path checked))
-
 -- a checked path ends somewhere, and a pin at which one ends is a capture
 pub ends_at-path : (parts : Parts) (capture : PinNo) → EndsAt parts capture → (path : List PinNo) × IsPathTo parts capture path
 ends_at-path parts capture h = (h.0, let To : PinNo → Type 0 = λ p. IsPathTo parts p h.0 in subst To h.2 (checked_to parts h.0 h.1).1)
