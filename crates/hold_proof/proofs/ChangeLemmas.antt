@@ -1,8 +1,8 @@
 -- Steps of the work on a leaf, one after another.
-use Rattle.std.proofs.Common.{◌≡◌, ℕ, zero, suc, ◌+◌, ◌*◌, ◌%◌, ◌<◌, ◌≤◌, List, [], ◌∷◌, ◌++◌, length, get_or, set, take, map, replicate, refl, sym, ap, ◌∙◌, arith}
+use Rattle.std.proofs.Common.{◌≡◌, ℕ, zero, suc, ◌+◌, ◌*◌, ◌%◌, ◌<◌, ◌≤◌, List, [], ◌∷◌, ◌++◌, length, get_or, set, take, replicate, refl, sym, ap, ◌∙◌, arith}
 use Rattle.std.specs.Prelude.{Option, Some, None, flat_map, All, ℤ, pos, neg_ℤ, ◌+ℤ◌, ◌*ℤ◌, unsigned_abs}
 use Rattle.std.proofs.lemmas.Int.{ints}
-use Rattle.std.proofs.lemmas.List.{take_more, flat_map_more, get_or_read, length-map, length-replicate, length-take-le, map_more, replicate_more}
+use Rattle.std.proofs.lemmas.List.{take_more, flat_map_more, length-map, length-replicate, length-take-le, map_more, replicate_more}
 use Rattle.std.proofs.lemmas.Nat.{mod-mul-add}
 use Rattle.hold_base.specs.Limits.{time_limit}
 use Rattle.hold_base.specs.declared.time.Interval.{Interval}
@@ -10,7 +10,7 @@ use Rattle.hold_base.specs.declared.time.Side.{Side}
 use Rattle.hold_base.specs.declared.time.Side.TheVariants.{Early, Late}
 use Rattle.hold_graph.specs.Problem.{IsSpan, IsWithin}
 use Rattle.hold_proof.specs.inner.Forms.{raised, added, cleared, norm}
-use Rattle.hold_proof.specs.inner.Gaps.{gap, gaps, step_of}
+use Rattle.hold_proof.specs.inner.Gaps.{gap, step_of}
 use Rattle.hold_proof.specs.inner.LeafTerms.{gain, path_numbers, var_terms, vars_from, site_terms, site_vars}
 use Rattle.hold_proof.specs.inner.Changes.{IsRaised, IsSettled}
 use Rattle.hold_proof.proofs.Magnitudes.{bounded, unsigned_abs-add, unsigned_abs-le, unsigned_abs-neg, unsigned_abs-times}

@@ -1,9 +1,9 @@
 -- Factors: what a change of one does to the value and the norm, and that clearing undoes adding.
-use Rattle.std.proofs.Common.{◌≡◌, ◌≢◌, ℕ, zero, suc, ◌+◌, ◌*◌, ◌<◌, ◌≤◌, List, [], ◌∷◌, length, get_or, set, replicate, refl, sym, ap, ◌∙◌, ◌⊎◌, inl, inr, arith}
-use Rattle.std.specs.Prelude.{map, ℤ, pos, ◌+ℤ◌, ◌-ℤ◌, ◌*ℤ◌, ◌≤ℤ◌, unsigned_abs}
+use Rattle.std.proofs.Common.{◌≡◌, ◌≢◌, ℕ, zero, suc, ◌+◌, ◌<◌, ◌≤◌, List, [], ◌∷◌, length, get_or, set, replicate, refl, sym, ap, ◌∙◌, ◌⊎◌, inl, inr, arith}
+use Rattle.std.specs.Prelude.{ℤ, pos, ◌+ℤ◌, ◌*ℤ◌, unsigned_abs}
 use Rattle.std.specs.List.{AllByRecursion}
 use Rattle.std.proofs.lemmas.Int.{ints}
-use Rattle.std.proofs.lemmas.List.{length-set, set-set, set_comm, set-get_or}
+use Rattle.std.proofs.lemmas.List.{length-set, set-set, set_comm}
 use Rattle.std.proofs.lemmas.Bool.{cases_order}
 use Rattle.hold_proof.specs.inner.Forms.{form_value, terms_value, raised, added, cleared, norm}
 use Rattle.hold_proof.proofs.Magnitudes.{unsigned_abs-add}

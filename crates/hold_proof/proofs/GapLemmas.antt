@@ -1,16 +1,15 @@
 -- Gaps: a cost and factors over a box come to at least the cost of the lows and the gaps, and some counts come to just that.
-use Rattle.std.proofs.Common.{◌≡◌, ℕ, zero, suc, ◌+◌, ◌*◌, ◌%◌, ◌<◌, ◌≤◌, List, [], ◌∷◌, length, get_or, set, replicate, refl, sym, ap, ◌∙◌, ◌⊎◌, inl, inr, arith}
+use Rattle.std.proofs.Common.{◌≡◌, ℕ, zero, suc, ◌+◌, ◌*◌, ◌<◌, ◌≤◌, List, [], ◌∷◌, length, get_or, set, replicate, refl, ap, ◌∙◌, arith}
 use Rattle.std.specs.Prelude.{ℤ, pos, negsuc, neg_ℤ, ◌+ℤ◌, ◌-ℤ◌, ◌*ℤ◌, ◌≤ℤ◌, ◌<ℤ◌, unsigned_abs}
 use Rattle.std.specs.List.{AllZip}
-use Rattle.std.proofs.lemmas.Int.{ints, unsigned_abs-mul}
+use Rattle.std.proofs.lemmas.Int.{ints}
 use Rattle.std.proofs.Math.Nat.{mul-le-mul_left, mul-le-mul_right}
 use Rattle.hold_graph.specs.Sites.{cost_from}
 use Rattle.hold_graph.specs.Boxes.{AreWithin}
-use Rattle.hold_proof.specs.inner.Forms.{form_value, norm}
+use Rattle.hold_proof.specs.inner.Forms.{form_value}
 use Rattle.hold_proof.specs.inner.Gaps.{least_times, step_of, gap, gaps}
-use Rattle.hold_graph.specs.Problem.{IsWithin}
-use Rattle.hold_proof.proofs.Magnitudes.{bounded, unsigned_abs-le}
-use Rattle.hold_proof.proofs.Products.{times-least, times-add_left, times-sub_right, times-neg_left}
+use Rattle.hold_proof.proofs.Magnitudes.{unsigned_abs-le}
+use Rattle.hold_proof.proofs.Products.{times-add_left, times-neg_left}
 
 -- a number that isn't below 0 times more
 times-more : (factor : ℤ) (less more : ℕ) → pos 0 ≤ℤ factor → less ≤ more → (factor *ℤ pos less) ≤ℤ (factor *ℤ pos more)

@@ -19,4 +19,6 @@ pub mod RoomLemmas
 pub mod WeighLemmas
 pub mod WorkLemmas
 pub mod Soundness
+pub mod FitnessLemmas
+pub mod FitLemmas
 pub mod TreeExamples
