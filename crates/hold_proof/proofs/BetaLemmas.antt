@@ -1,10 +1,9 @@
 -- The least value of a leaf over a box, from its factors.
-use Rattle.std.proofs.Common.{◌≡◌, ℕ, zero, suc, ◌+◌, ◌*◌, ◌<◌, ◌≤◌, List, [], ◌∷◌, length, replicate, refl, sym, ap, ◌∙◌, subst, ◌↔◌, arith}
-use Rattle.std.specs.Prelude.{Bool, IsTrue, Option, Some, None, All, ℤ, pos, ◌+ℤ◌, ◌-ℤ◌, ◌*ℤ◌, ◌≤ℤ◌}
+use Rattle.std.proofs.Common.{◌≡◌, ℕ, zero, suc, ◌*◌, List, [], ◌∷◌, length, replicate, refl, sym, ◌∙◌, subst, ◌↔◌, arith}
+use Rattle.std.specs.Prelude.{Bool, IsTrue, ℤ, pos, ◌+ℤ◌, ◌-ℤ◌, ◌≤ℤ◌}
 use Rattle.std.proofs.lemmas.Int.{ints}
 use Rattle.std.proofs.lemmas.List.{length-replicate}
 use Rattle.hold_base.specs.declared.number.PinNo.{PinNo}
-use Rattle.hold_base.specs.declared.number.SiteNo.{SiteNo}
 use Rattle.hold_graph.specs.declared.problem.Problem.{Problem}
 use Rattle.hold_graph.specs.declared.problem.Listed.{Listed}
 use Rattle.hold_graph.specs.Problem.{IsValid}
@@ -15,7 +14,7 @@ use Rattle.hold_graph.specs.Boxes.{IsBox, AreWithin, IsPoint}
 use Rattle.hold_proof.specs.InForce.{InForce}
 use Rattle.hold_proof.specs.Values.{leaf_value, IsBeta}
 use Rattle.hold_proof.specs.Closing.{IsFit, IsAbove, Closes}
-use Rattle.hold_proof.specs.inner.Forms.{form_value, terms_value, added}
+use Rattle.hold_proof.specs.inner.Forms.{form_value, added}
 use Rattle.hold_proof.specs.inner.Gaps.{gaps}
 use Rattle.hold_proof.specs.inner.LeafTerms.{leaf_free, leaf_terms}
 use Rattle.hold_proof.proofs.FormLemmas.{AreBelow, form_value-added, length-added}

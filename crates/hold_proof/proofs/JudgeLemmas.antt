@@ -1,11 +1,11 @@
 -- Judging a tree node by node.
-use Rattle.std.proofs.Common.{◌≡◌, ◌≢◌, ℕ, zero, suc, ◌+◌, ◌<◌, ◌≤◌, List, [], ◌∷◌, ◌++◌, length, get_or, take, drop, refl, sym, ap, ◌∙◌, arith}
-use Rattle.std.specs.Prelude.{Option, Some, None, option_map, option_and_then, slice_get, All}
+use Rattle.std.proofs.Common.{◌≡◌, ℕ, suc, ◌+◌, ◌<◌, ◌≤◌, List, [], ◌∷◌, ◌++◌, length, take, drop, refl, sym, ap, ◌∙◌, arith}
+use Rattle.std.specs.Prelude.{Option, Some, slice_get}
 use Rattle.std.specs.List.{AllByRecursion}
 use Rattle.std.proofs.lemmas.Option.{none-some, same_Some}
 use Rattle.std.proofs.lemmas.List.{append_assoc, append-nil, length_push, drop_all, take_at}
 use Rattle.std.proofs.lemmas.List.Elements.{All-from_recursion}
-use Rattle.hold_base.proofs.Lists.{AllByRecursion-append, slice_get-seam, drop-here}
+use Rattle.hold_base.proofs.Lists.{AllByRecursion-append, slice_get-seam}
 use Rattle.hold_base.proofs.Options.{option_map-Some, option_and_then-Some}
 use Rattle.hold_base.specs.declared.number.PinNo.{PinNo}
 use Rattle.hold_base.specs.declared.number.VarNo.{VarNo}
@@ -15,14 +15,14 @@ use Rattle.hold_graph.specs.declared.boxed.Boxed.{Boxed}
 use Rattle.hold_proof.specs.declared.node.Leaf.{Leaf}
 use Rattle.hold_proof.specs.declared.node.Node.{Node}
 use Rattle.hold_proof.specs.declared.node.Node.TheVariants.{Leaf as LeafNode, Split as SplitNode}
-use Rattle.hold_proof.specs.Tree.{ProofTree, Ends, Splits, preorder}
+use Rattle.hold_proof.specs.Tree.{ProofTree, Ends, preorder}
 use Rattle.hold_graph.specs.Boxes.{IsBox, IsPlace, lower_half, upper_half}
 use Rattle.hold_proof.specs.InForce.{InForce}
 use Rattle.hold_proof.specs.Closing.{Closes}
 use Rattle.hold_proof.specs.Proving.{Proves}
 use Rattle.hold_proof.specs.Flaws.{IsFirstNot, IsFine, IsFineNode, visits}
 use Rattle.hold_proof.specs.inner.Forest.{forest, joined, forest-preorder}
-use Rattle.hold_proof.specs.inner.Judging.{forced, visits_of, IsJudged}
+use Rattle.hold_proof.specs.inner.Judging.{boxes_past, forced, visits_of, IsJudged}
 use Rattle.hold_graph.proofs.BoxLemmas.{lower-is_box, upper-is_box}
 use Rattle.hold_proof.proofs.VisitLemmas.{fine-proves}
 
@@ -190,3 +190,17 @@ judged-all problem sites paths below root tree nodes place boxes end h =
     let whole : visits (forced below root) tree ≡ h.judged =
     h.rest ∙ ap (λ trees. h.judged ++ visits_of below boxes trees) none ∙ ap (λ l. h.judged ++ l) (no_visits below boxes) ∙ append-nil h.judged in
     fine-proves problem sites paths (forced below root) tree (rw whole (h.fine))
+
+-- past a node that is fine
+pub judged-past : (problem : Problem) (sites : List PinNo) (paths : List Listed) (below : Option ℕ) (root : Boxed) (tree : ProofTree) (nodes : List Node) (place : ℕ) (node : Node) (box : Boxed) (others : List Boxed) →
+    drop place nodes ≡ node ∷ drop (place + 1) nodes → IsJudged problem sites paths below root tree nodes place (box ∷ others) →
+    IsFineNode problem sites paths node (forced below box) → IsJudged problem sites paths below root tree nodes (place + 1) (boxes_past node box others)
+judged-past problem sites paths below root tree nodes place (LeafNode leaf) box others here judged fine = judged-leaf problem sites paths below root tree nodes place leaf box others here judged fine
+judged-past problem sites paths below root tree nodes place (SplitNode var at) box others here judged fine = judged-split problem sites paths below root tree nodes place var at box others here judged fine
+
+-- a node that isn't
+pub judged-unfit : (problem : Problem) (sites : List PinNo) (paths : List Listed) (below : Option ℕ) (root : Boxed) (tree : ProofTree) (nodes : List Node) (place : ℕ) (node : Node) (box : Boxed) (others : List Boxed) →
+    drop place nodes ≡ node ∷ drop (place + 1) nodes → IsJudged problem sites paths below root tree nodes place (box ∷ others) →
+    (IsFineNode problem sites paths node (forced below box) → ⊥) → IsFirstNot (IsFine problem sites paths) (visits (forced below root) tree) place (node, forced below box)
+judged-unfit problem sites paths below root tree nodes place (LeafNode leaf) box others here judged unfit = judged-open_leaf problem sites paths below root tree nodes place leaf box others here judged unfit
+judged-unfit problem sites paths below root tree nodes place (SplitNode var at) box others here judged unfit = judged-bad_split problem sites paths below root tree nodes place var at box others here judged unfit

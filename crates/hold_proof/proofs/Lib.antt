@@ -19,6 +19,9 @@ pub mod RoomLemmas
 pub mod WeighLemmas
 pub mod WorkLemmas
 pub mod Soundness
+pub mod FlawLemmas
+pub mod PassLemmas
+pub mod AnswerLemmas
 pub mod FitnessLemmas
 pub mod FitLemmas
 pub mod TreeExamples

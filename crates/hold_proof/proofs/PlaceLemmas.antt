@@ -1,6 +1,6 @@
 -- Lists by pin: links from one place of a pin to the next, and hulls over them.
-use Rattle.std.proofs.Common.{◌≡◌, ◌≢◌, ℕ, zero, suc, ◌+◌, ◌-◌, ◌<◌, ◌≤◌, ◌==◌, Bool, true, false, cond, List, [], ◌∷◌, length, get_or, set, drop, replicate, refl, sym, ap, ◌∙◌, ◌⊎◌, inl, inr, arith}
-use Rattle.std.specs.Prelude.{Option, Some, None, slice_get, fold, ℤ, pos}
+use Rattle.std.proofs.Common.{◌≡◌, ◌≢◌, ℕ, suc, ◌+◌, ◌<◌, ◌≤◌, ◌==◌, true, false, List, [], ◌∷◌, length, get_or, set, drop, replicate, refl, sym, ap, ◌∙◌, ◌⊎◌, inl, inr, arith}
+use Rattle.std.specs.Prelude.{Option, Some, None, slice_get, fold, ℤ}
 use Rattle.std.specs.Int.{int_max}
 use Rattle.std.proofs.lemmas.Bool.{cases_order}
 use Rattle.std.proofs.lemmas.Bool.Decides.{nat_tests}
@@ -11,7 +11,7 @@ use Rattle.hold_base.specs.Interval.{hull, hull_of}
 use Rattle.hold_base.specs.declared.number.PinNo.{PinNo}
 use Rattle.hold_base.specs.declared.time.Interval.{Interval}
 use Rattle.hold_graph.specs.Sums.{items_at, greatest_of}
-use Rattle.hold_proof.specs.inner.Places.{place_from, next_place, AreLinked, links_left, joined_to, hull_or_none, hull_after, greater, time_or_none, greatest_after}
+use Rattle.hold_proof.specs.inner.Places.{place_from, next_place, AreLinked, links_left, hull_or_none, hull_after, time_or_none, greatest_after}
 
 -- before anything is entered
 pub linked-none : (count : ℕ) (pins : List PinNo) → AreLinked count pins (length pins) (replicate count None) (replicate (length pins) None)

@@ -2,7 +2,7 @@
 use Rattle.std.proofs.Common.{◌≡◌, ℕ, ◌*◌, List, length, ap, ◌∙◌}
 use Rattle.hold_base.specs.declared.number.PinNo.{PinNo}
 use Rattle.hold_graph.specs.declared.problem.Problem.{Problem}
-use Rattle.hold_proof.specs.Room.{Room, room_of}
+use Rattle.hold_proof.specs.Room.{room_of}
 
 pub room-is : (problem : Problem) (sites launches captures : List PinNo) (vars pins : ℕ) → vars ≡ length sites * length problem.costs → pins ≡ problem.graph.pins → launches ≡ problem.graph.launches →
     captures ≡ problem.graph.captures → record { vars = vars; pins = pins; launches = launches; captures = captures } ≡ room_of problem sites

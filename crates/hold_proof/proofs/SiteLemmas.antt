@@ -1,22 +1,20 @@
 -- Sites by pin, how many there are, and how long a checked path is.
-use Rattle.std.proofs.Common.{◌≡◌, ◌≢◌, ℕ, zero, suc, ◌+◌, ◌-◌, ◌*◌, ◌<◌, ◌≤◌, ◌==◌, Bool, true, false, cond, ltb, List, [], ◌∷◌, length, get_or, take, drop, refl, sym, ap, ◌∙◌, subst, arith}
-use Rattle.std.specs.Prelude.{Option, Some, None, position, slice_get, All, Contains}
+use Rattle.std.proofs.Common.{◌≡◌, ℕ, suc, ◌+◌, ◌-◌, ◌*◌, ◌<◌, ◌≤◌, ◌==◌, Bool, true, false, ltb, List, [], ◌∷◌, length, get_or, take, drop, refl, ap, ◌∙◌, subst, arith}
+use Rattle.std.specs.Prelude.{Some, None, position, slice_get, All, Contains}
 use Rattle.std.specs.List.{position_or_len}
 use Rattle.std.proofs.lemmas.Bool.Decides.{nat_tests}
-use Rattle.std.proofs.lemmas.Bool.{false≢true}
 use Rattle.std.proofs.lemmas.List.Sums.{position_or_len_is}
 use Rattle.std.proofs.lemmas.List.Elements.{All-contains, All-nil, All-cons}
 use Rattle.std.proofs.lemmas.Option.{slice_get_within, slice_get-get_or, get_or_from_slice_get}
 use Rattle.std.proofs.Math.Nat.{mul-le-mul_right}
 use Rattle.std.proofs.lemmas.List.{take_all}
 use Rattle.hold_base.proofs.Bools.{false-never}
-use Rattle.hold_base.specs.Limits.{bound_pins_limit}
 use Rattle.hold_base.specs.declared.number.PinNo.{PinNo}
 use Rattle.hold_graph.specs.declared.graph.Arc.{Arc}
 use Rattle.hold_graph.specs.declared.graph.Parts.{Parts}
 use Rattle.hold_graph.specs.Graph.{NamesItsPins}
 use Rattle.hold_graph.specs.Cycles.{IsTopological}
-use Rattle.hold_graph.specs.Path.{HasArc, EachNext, last_pin, IsCheckedPath}
+use Rattle.hold_graph.specs.Path.{EachNext, last_pin, IsCheckedPath}
 use Rattle.hold_graph.specs.SitePins.{IsSite, AreSites}
 use Rattle.hold_graph.proofs.SiteLists.{rising-few, site-there}
 use Rattle.hold_graph.proofs.Acyclic.{stands_before}

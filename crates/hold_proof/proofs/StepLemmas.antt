@@ -1,6 +1,6 @@
 -- The spans of a step, found by the arcs into its pin.
-use Rattle.std.proofs.Common.{◌≡◌, ℕ, zero, suc, ◌+◌, ◌<◌, ◌≤◌, ◌==◌, ◌&&◌, Bool, true, false, cond, List, [], ◌∷◌, length, get_or, drop, refl, sym, ap, ◌∙◌, subst, arith}
-use Rattle.std.specs.Prelude.{Option, Some, None, All}
+use Rattle.std.proofs.Common.{◌≡◌, ℕ, ◌+◌, ◌<◌, ◌≤◌, ◌==◌, ◌&&◌, Bool, true, false, cond, List, [], ◌∷◌, length, get_or, drop, refl, sym, ap, ◌∙◌, subst, arith}
+use Rattle.std.specs.Prelude.{Option, None, All}
 use Rattle.std.proofs.lemmas.List.{get_or-drop, at_drop_all}
 use Rattle.hold_graph.proofs.PlacesOf.{places_of-below}
 use Rattle.hold_base.proofs.Lists.{drop-next}

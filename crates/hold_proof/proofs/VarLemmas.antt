@@ -1,6 +1,6 @@
 -- The variables of a leaf's terms: each is one of the problem's.
-use Rattle.std.proofs.Common.{◌≡◌, ℕ, zero, suc, ◌+◌, ◌*◌, ◌<◌, ◌≤◌, ◌==◌, List, [], ◌∷◌, ◌++◌, length, map, replicate, refl, sym, ap, ◌∙◌, inl, inr, arith}
-use Rattle.std.specs.Prelude.{flat_map, Option, Some, None, position, slice_get, All, ℤ, pos}
+use Rattle.std.proofs.Common.{◌≡◌, ℕ, zero, suc, ◌+◌, ◌*◌, ◌<◌, ◌≤◌, ◌==◌, List, [], ◌∷◌, ◌++◌, length, map, replicate, refl, ap, ◌∙◌, inl, inr, arith}
+use Rattle.std.specs.Prelude.{flat_map, Option, Some, None, slice_get, All, ℤ, pos}
 use Rattle.std.specs.List.{AllByRecursion}
 use Rattle.std.proofs.lemmas.List.{length-map, length-replicate, map-append}
 use Rattle.std.proofs.lemmas.List.Elements.{All-head, All-tail}
@@ -15,7 +15,7 @@ use Rattle.hold_graph.specs.declared.problem.Problem.{Problem}
 use Rattle.hold_graph.specs.declared.problem.Listed.{Listed}
 use Rattle.hold_graph.specs.Problem.{IsValidCorner}
 use Rattle.hold_proof.specs.declared.node.Leaf.{Leaf}
-use Rattle.hold_proof.specs.inner.LeafTerms.{var_terms, site_terms, site_at, pins_terms, path_numbers, path_terms, corner_terms, listed_terms, paths_terms, chains_terms, leaf_terms, vars_from, site_vars, pins_vars, path_vars, corner_vars, listed_vars, paths_vars, chains_vars, leaf_vars}
+use Rattle.hold_proof.specs.inner.LeafTerms.{var_terms, site_terms, site_at, pins_terms, path_numbers, path_terms, corner_terms, listed_terms, paths_terms, chains_terms, leaf_terms, vars_from, site_vars, path_vars, corner_vars, listed_vars, paths_vars, leaf_vars}
 use Rattle.hold_proof.proofs.FormLemmas.{AreBelow, IsAmong}
 
 -- the corner is one of the problem's, if there is one

@@ -1,23 +1,16 @@
 -- Visits of a tree: it proves exactly where each is fine, and there is at most one first flaw, which no proof has.
-use Rattle.std.proofs.Common.{◌≡◌, ℕ, zero, suc, ◌+◌, ◌<◌, ◌≤◌, List, [], ◌∷◌, ◌++◌, length, get_or, take, drop, refl, sym, ap, ◌∙◌, ◌↔◌, ◌⊎◌, inl, inr, arith}
-use Rattle.std.specs.Prelude.{Some, None, slice_get, All, Option}
+use Rattle.std.proofs.Common.{◌≡◌, ℕ, zero, suc, List, [], ◌∷◌, take, refl, sym, ap, ◌∙◌}
 use Rattle.std.specs.List.{AllByRecursion}
-use Rattle.std.proofs.lemmas.Bool.{cases_order}
 use Rattle.std.proofs.lemmas.Option.{none-some, same_Some}
-use Rattle.std.proofs.lemmas.List.{length-append, length-take-le, get_or-take}
-use Rattle.std.proofs.lemmas.List.Elements.{All-from_recursion, recursion_from_All, All-take, All-head, All-tail, All-append}
-use Rattle.hold_base.proofs.Lists.{AllByRecursion-append, AllByRecursion-append_left, AllByRecursion-append_right, slice_get-seam}
+use Rattle.std.proofs.lemmas.List.Elements.{All-head, All-tail}
+use Rattle.hold_base.proofs.Lists.{AllByRecursion-append, AllByRecursion-append_left, AllByRecursion-append_right}
 use Rattle.hold_base.specs.declared.number.PinNo.{PinNo}
 use Rattle.hold_graph.specs.declared.problem.Problem.{Problem}
 use Rattle.hold_graph.specs.declared.problem.Listed.{Listed}
-use Rattle.hold_proof.specs.declared.flaw.TreeFlaw.{TreeFlaw}
-use Rattle.hold_proof.specs.declared.flaw.TreeFlaw.TheVariants.{NotPath, BadSplit, OpenLeaf}
-use Rattle.hold_proof.specs.declared.node.Node.{Node}
 use Rattle.hold_proof.specs.Tree.{ProofTree, Ends, Splits}
 use Rattle.hold_proof.specs.InForce.{InForce, in_lower, in_upper}
 use Rattle.hold_proof.specs.Proving.{Proves}
-use Rattle.hold_proof.specs.Closing.{IsOfProblem}
-use Rattle.hold_proof.specs.Flaws.{IsProof, IsFirstNot, IsFirstNode, IsFine, visits, IsFirstFlaw}
+use Rattle.hold_proof.specs.Flaws.{IsFirstNot, IsFine, visits}
 
 -- a tree proves where each visit is fine
 pub fine-proves : (problem : Problem) (sites : List PinNo) (paths : List Listed) (force : InForce) (tree : ProofTree) →

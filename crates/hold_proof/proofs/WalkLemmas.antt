@@ -1,6 +1,5 @@
 -- Going down into a split and back up to the next box.
-use Rattle.std.proofs.Common.{◌≡◌, ℕ, zero, suc, ◌+◌, ◌<◌, ◌≤◌, List, [], ◌∷◌, ◌++◌, length, get_or, set, reverse, Bool, false, refl, sym, ap, ◌∙◌, arith}
-use Rattle.std.specs.List.{AllByRecursion}
+use Rattle.std.proofs.Common.{◌≡◌, ℕ, ◌+◌, ◌<◌, List, [], ◌∷◌, ◌++◌, get_or, set, reverse, Bool, false, sym, ap, ◌∙◌}
 use Rattle.std.proofs.lemmas.List.{set-set, set-get_or, reverse-append}
 use Rattle.hold_base.specs.declared.number.VarNo.{VarNo}
 use Rattle.hold_proof.specs.declared.walk.Turn.{Turn}

@@ -1,7 +1,6 @@
 -- The work on a leaf: its terms are added to factors of 0, and settled again.
-use Rattle.std.proofs.Common.{◌≡◌, ℕ, zero, suc, ◌+◌, ◌*◌, ◌<◌, ◌≤◌, List, [], ◌∷◌, ◌++◌, length, replicate, refl, sym, ap, ◌∙◌, subst, arith}
-use Rattle.std.specs.Prelude.{ℤ, pos, ◌+ℤ◌, ◌-ℤ◌, ◌*ℤ◌, All}
-use Rattle.std.specs.List.{AllByRecursion}
+use Rattle.std.proofs.Common.{◌≡◌, ℕ, zero, suc, ◌*◌, ◌<◌, ◌≤◌, List, length, replicate, refl, sym, ap, ◌∙◌, subst, arith}
+use Rattle.std.specs.Prelude.{ℤ, pos, ◌+ℤ◌, ◌-ℤ◌, All}
 use Rattle.std.proofs.lemmas.Int.{ints}
 use Rattle.std.proofs.lemmas.List.{length-replicate}
 use Rattle.std.proofs.Math.Nat.{mul_comm, mul-le-mul_right}
@@ -11,7 +10,7 @@ use Rattle.hold_base.specs.declared.number.PathNo.{PathNo}
 use Rattle.hold_base.specs.declared.number.PinNo.{PinNo}
 use Rattle.hold_base.specs.declared.number.SiteNo.{SiteNo}
 use Rattle.hold_graph.specs.Boxes.{IsBox}
-use Rattle.hold_graph.specs.Problem.{IsValid, IsWithin}
+use Rattle.hold_graph.specs.Problem.{IsValid}
 use Rattle.hold_graph.specs.Graph.{NamesItsPins}
 use Rattle.hold_graph.specs.Sites.{AreSites, cost_of}
 use Rattle.hold_graph.specs.declared.boxed.Boxed.{Boxed}
@@ -23,14 +22,14 @@ use Rattle.hold_proof.specs.Closing.{weight_limit, IsFit}
 use Rattle.hold_proof.specs.Values.{IsBeta}
 use Rattle.hold_proof.specs.inner.Basis.{total}
 use Rattle.hold_proof.specs.inner.Changes.{IsRaised, IsSettled, norm_limit, path_unit, vars_limit}
-use Rattle.hold_proof.specs.inner.Forms.{added, cleared, norm}
+use Rattle.hold_proof.specs.inner.Forms.{added, cleared}
 use Rattle.hold_proof.specs.inner.Gaps.{gaps}
 use Rattle.hold_proof.specs.inner.LeafTerms.{chains_terms, chains_vars, leaf_free, leaf_terms, leaf_vars, paths_terms, paths_vars}
 use Rattle.hold_proof.specs.inner.Over.{IsOver}
 use Rattle.hold_proof.specs.inner.Walk.{box_at}
 use Rattle.hold_proof.proofs.BetaLemmas.{leaf_beta, leaf_beta-is, leaf_factors}
 use Rattle.hold_proof.proofs.ChangeLemmas.{raised-then, settled-then}
-use Rattle.hold_proof.proofs.FormLemmas.{cleared-added, cleared-replicate, norm-replicate}
+use Rattle.hold_proof.proofs.FormLemmas.{cleared-added, cleared-replicate}
 use Rattle.hold_proof.proofs.GapLemmas.{gaps-none}
 use Rattle.hold_proof.proofs.SiteLemmas.{sites-few}
 use Rattle.hold_proof.proofs.VarLemmas.{term_vars, term_vars-leaf, terms-among}

@@ -8,7 +8,7 @@
 -- IsFirstNode: all listed paths are of the problem, and the node of that number is the first that isn't fine.
 -- IsFirstFlaw problem sites paths force tree flaw: the flaw names the first listed path that isn't of the problem; or all are, and
 --   it names the first node that isn't fine, as a bad split or as an open leaf. There is at most one, and none of a proof.
-use Rattle.std.specs.Prelude.{◌≡◌, ℕ, List, [], ◌∷◌, ◌++◌, length, take, Some, slice_get, All}
+use Rattle.std.specs.Prelude.{◌≡◌, ℕ, List, [], ◌∷◌, ◌++◌, take, Some, slice_get, All}
 use Rattle.hold_base.specs.declared.number.PinNo.{PinNo}
 use Rattle.hold_base.specs.declared.number.VarNo.{VarNo}
 use Rattle.hold_graph.specs.declared.problem.Problem.{Problem}

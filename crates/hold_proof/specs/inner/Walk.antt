@@ -6,7 +6,6 @@
 -- IsWalk costs vars walk: the box of the walk has so many variables, the turns are of these, and the cost is that of the lows.
 use Rattle.std.specs.Prelude.{◌≡◌, ℕ, ◌<◌, length, Bool, true, false, List, [], ◌∷◌, reverse, slice_set}
 use Rattle.std.specs.List.{AllByRecursion}
-use Rattle.hold_base.specs.declared.number.VarNo.{VarNo}
 use Rattle.hold_graph.specs.Sites.{cost_of}
 use Rattle.hold_graph.specs.declared.boxed.Boxed.{Boxed}
 use Rattle.hold_proof.specs.declared.walk.Turn.{Turn}

@@ -1,12 +1,10 @@
-use Rattle.std.proofs.Common.{◌≡◌, ◌+◌, ◌*◌, ◌≤◌, length, replicate, rules, ap, sym, ◌∙◌, subst, arith, FitsSigned, to_z, of_z}
-use Rattle.std.specs.Prelude.{List, ℤ, pos, ◌+ℤ◌, ◌-ℤ◌, ◌*ℤ◌}
+use Rattle.std.proofs.Common.{◌≡◌, ◌*◌, length, rules, ap, ◌∙◌, arith, FitsSigned, to_z, of_z}
+use Rattle.std.specs.Prelude.{List, ℤ, pos, ◌*ℤ◌}
 use Rattle.std.proofs.lemmas.Int.{ints, to_z-of_z}
 use Rattle.std.proofs.lemmas.List.{length-replicate}
 use Rattle.std.proofs.Math.Nat.{mul-le-mul_left}
 use mir.Syntax.{w128}
-use Rattle.hold_proof.specs.Closing.{weight_limit}
 use Rattle.hold_proof.specs.inner.Forms.{norm}
-use Rattle.hold_proof.specs.inner.Over.{IsOver}
 use Rattle.hold_proof.proofs.ChangeLemmas.{length-raised, settled-sum_size}
 use Rattle.hold_proof.proofs.FormLemmas.{norm-replicate}
 use Rattle.hold_proof.proofs.WorkLemmas.{leaf-beta, leaf-clear}

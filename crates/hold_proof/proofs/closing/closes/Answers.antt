@@ -1,8 +1,7 @@
-use Rattle.std.proofs.Common.{◌≡◌, ◌*◌, ◌<◌, ◌≤◌, ◌↔◌, ℕ, length, refl, rules, ap, sym, ◌∙◌, subst, arith}
+use Rattle.std.proofs.Common.{◌↔◌, ℕ, length, ap, sym, subst, arith}
 use Rattle.std.specs.Prelude.{List, IsTrue}
 use Rattle.hold_graph.specs.Boxes.{IsBox}
 use Rattle.hold_proof.specs.Closing.{Closes}
-use Rattle.hold_proof.specs.inner.Walk.{box_at}
 use Rattle.hold_proof.proofs.WorkLemmas.{box-few, box-kinds, same-box}
 use Rattle.hold_proof.proofs.closing.closes.Goals as goal
 

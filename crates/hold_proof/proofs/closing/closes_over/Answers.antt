@@ -1,12 +1,10 @@
-use Rattle.std.proofs.Common.{◌≡◌, ◌*◌, ◌≤◌, ◌↔◌, length, rules, ap, sym, ◌∙◌, subst, arith, FitsSigned}
-use Rattle.std.specs.Prelude.{List, All, IsTrue}
+use Rattle.std.proofs.Common.{◌≤◌, ◌↔◌, length, rules, ap, sym, subst, arith, FitsSigned}
+use Rattle.std.specs.Prelude.{All, IsTrue}
 use Rattle.std.proofs.lemmas.Int.{to_z-of_z}
 use mir.Syntax.{w128}
 use Rattle.hold_base.specs.Limits.{cost_limit}
-use Rattle.hold_base.specs.declared.number.PinNo.{PinNo}
 use Rattle.hold_graph.proofs.SiteLists.{sites-unique}
 use Rattle.hold_proof.specs.Room.{Room}
-use Rattle.hold_proof.specs.Values.{IsBeta}
 use Rattle.hold_proof.specs.Closing.{IsAbove}
 use Rattle.hold_proof.specs.inner.Walk.{box_at}
 use Rattle.hold_proof.proofs.BetaLemmas.{closes-above}

@@ -1,4 +1,4 @@
-use Rattle.std.proofs.Common.{◌≡◌, ◌+◌, ◌*◌, ◌-◌, ◌<◌, get_or, set, ap, ◌∙◌, sym, arith}
+use Rattle.std.proofs.Common.{◌<◌, set, ap, ◌∙◌, arith}
 use Rattle.std.specs.Prelude.{All}
 use Rattle.std.proofs.lemmas.List.{get_or_default}
 use Rattle.hold_graph.specs.Sites.{cost_of}

@@ -1,4 +1,4 @@
-use Rattle.std.proofs.Common.{◌≡◌, rules, ap, ◌∙◌, arith, FitsSigned}
+use Rattle.std.proofs.Common.{rules, ◌∙◌, FitsSigned}
 use Rattle.std.proofs.lemmas.Int.{to_z-of_z}
 use mir.Syntax.{w64}
 use Rattle.hold_proof.proofs.SiteLemmas.{rest-below}

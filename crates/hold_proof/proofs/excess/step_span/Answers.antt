@@ -1,7 +1,7 @@
-use Rattle.std.proofs.Common.{◌≡◌, ◌+◌, drop, refl, sym, ap, ◌∙◌, arith}
+use Rattle.std.proofs.Common.{◌+◌, drop, refl, sym, ap, ◌∙◌, arith}
 use Rattle.std.proofs.lemmas.List.{at_drop_more}
 use Rattle.hold_graph.specs.declared.graph.Parts.{Parts}
-use Rattle.hold_proof.specs.inner.Places.{hull_over, hull_or_none}
+use Rattle.hold_proof.specs.inner.Places.{hull_over}
 use Rattle.hold_proof.proofs.StepLemmas.{place-there, step-end}
 use Rattle.hold_proof.proofs.excess.step_span.Goals as goal
 

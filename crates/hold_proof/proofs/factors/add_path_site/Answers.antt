@@ -1,4 +1,4 @@
-use Rattle.std.proofs.Common.{◌≡◌, ◌+◌, ◌*◌, ◌≤◌, length, take, rules, arith, sym, ap, ◌∙◌, FitsSigned}
+use Rattle.std.proofs.Common.{◌≡◌, ◌+◌, ◌*◌, ◌≤◌, length, rules, arith, ap, ◌∙◌, FitsSigned}
 use Rattle.std.specs.Prelude.{unsigned_abs}
 use Rattle.std.proofs.lemmas.Int.{to_z-of_z}
 use Rattle.std.proofs.lemmas.List.{take_all}
@@ -6,8 +6,6 @@ use Rattle.std.proofs.Math.Nat.{mul-le-mul_right}
 use mir.Syntax.{w128}
 use Rattle.hold_base.specs.Limits.{time_limit}
 use Rattle.hold_proof.specs.inner.Forms.{raised}
-use Rattle.hold_proof.specs.inner.LeafTerms.{path_numbers, var_terms}
-use Rattle.hold_proof.specs.inner.Changes.{IsRaised}
 use Rattle.hold_proof.proofs.ChangeLemmas.{listed_number-size, path_site-more, length-raised}
 use Rattle.hold_proof.proofs.factors.add_path_site.Goals as goal
 

@@ -1,4 +1,4 @@
-use Rattle.std.proofs.Common.{◌≡◌, ◌*◌, take, length}
+use Rattle.std.proofs.Common.{◌*◌, take}
 use Rattle.hold_base.specs.Limits.{time_limit}
 use Rattle.hold_proof.specs.inner.LeafTerms.{path_numbers, var_terms}
 use Rattle.hold_proof.specs.inner.Changes.{IsRaised}

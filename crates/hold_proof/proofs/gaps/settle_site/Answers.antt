@@ -1,12 +1,11 @@
 use Rattle.std.proofs.Common.{◌≡◌, ◌+◌, ◌*◌, ◌<◌, ◌≤◌, length, get_or, refl, rules, ap, ◌∙◌, arith, FitsSigned}
-use Rattle.std.specs.Prelude.{unsigned_abs, pos, ◌+ℤ◌}
+use Rattle.std.specs.Prelude.{unsigned_abs, pos}
 use Rattle.std.proofs.lemmas.Int.{ints, to_z-of_z}
 use Rattle.std.proofs.lemmas.List.{get_or_read}
 use Rattle.std.proofs.lemmas.List.Elements.{AllZip-get_or}
 use mir.Syntax.{w128}
 use Rattle.hold_proof.specs.inner.Gaps.{gap}
 use Rattle.hold_proof.proofs.FormLemmas.{norm-at}
-use Rattle.hold_proof.proofs.Magnitudes.{bounded}
 use Rattle.hold_proof.proofs.ChangeLemmas.{length-settled, settled_site-more, settled-sum_size, settled-same}
 use Rattle.hold_proof.proofs.gaps.settle_site.Goals as goal
 

@@ -1,7 +1,5 @@
-use Rattle.std.proofs.Common.{◌≡◌, ◌+◌, ◌*◌, ◌≤◌, length, get_or, arith}
+use Rattle.std.proofs.Common.{length, get_or, arith}
 use Rattle.std.proofs.lemmas.List.{get_or_default}
-use Rattle.std.proofs.Math.Nat.{mul-le-mul_right}
-use Rattle.hold_proof.specs.inner.Changes.{site_unit}
 use Rattle.hold_proof.specs.inner.LeafTerms.{path_numbers, site_at, site_terms}
 use Rattle.hold_proof.proofs.ChangeLemmas.{length-raised, raised-more}
 use Rattle.hold_proof.proofs.paths.add_path.Goals as goal

@@ -1,4 +1,4 @@
-use Rattle.std.proofs.Common.{◌≡◌, ◌*◌, ◌≤◌, length, arith}
+use Rattle.std.proofs.Common.{◌*◌, length, arith}
 use Rattle.std.proofs.Math.Nat.{mul-le-mul_right}
 use Rattle.hold_base.specs.Limits.{time_limit}
 use Rattle.hold_proof.proofs.SiteLemmas.{site_at-Some, site_at-None, site-room}

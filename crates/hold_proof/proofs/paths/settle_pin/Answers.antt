@@ -1,4 +1,4 @@
-use Rattle.std.proofs.Common.{◌≡◌, length, rules, FitsSigned}
+use Rattle.std.proofs.Common.{length, rules, FitsSigned}
 use Rattle.std.proofs.lemmas.Int.{to_z-of_z}
 use mir.Syntax.{w128}
 use Rattle.hold_proof.proofs.SiteLemmas.{site_at-Some, site_at-None, site-room}

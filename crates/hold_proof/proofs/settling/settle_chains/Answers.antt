@@ -1,8 +1,7 @@
-use Rattle.std.proofs.Common.{◌≡◌, ◌+◌, ◌*◌, ◌<◌, ◌≤◌, suc, length, get_or, sym, ◌∙◌, arith}
+use Rattle.std.proofs.Common.{◌≤◌, suc, length, get_or, sym, ◌∙◌, arith}
 use Rattle.std.specs.Prelude.{ℕ, Some}
 use Rattle.std.proofs.lemmas.Int.{ints}
 use Rattle.std.proofs.lemmas.List.{get_or_default}
-use Rattle.std.proofs.lemmas.Slice.Zip.{AllZip-long}
 use Rattle.std.proofs.Math.Nat.{mul-le-mul_right}
 use Rattle.hold_base.specs.declared.number.SiteNo.{SiteNo}
 use Rattle.hold_proof.specs.inner.LeafTerms.{site_vars}

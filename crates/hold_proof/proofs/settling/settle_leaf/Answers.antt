@@ -1,11 +1,5 @@
-use Rattle.std.proofs.Common.{◌≡◌, ◌+◌, ◌*◌, ◌≤◌, length, rules, ap, sym, ◌∙◌, subst, arith, FitsSigned}
-use Rattle.std.specs.Prelude.{ℕ, List, ℤ, pos, ◌+ℤ◌}
-use Rattle.std.proofs.lemmas.Int.{ints, to_z-of_z}
-use mir.Syntax.{w128}
-use Rattle.hold_base.specs.declared.number.PathNo.{PathNo}
-use Rattle.hold_base.specs.declared.number.SiteNo.{SiteNo}
-use Rattle.hold_proof.specs.inner.Changes.{IsSettled, norm_limit}
-use Rattle.hold_proof.specs.inner.LeafTerms.{chains_vars, paths_vars}
+use Rattle.std.proofs.Common.{arith}
+use Rattle.std.proofs.lemmas.Int.{ints}
 use Rattle.hold_proof.proofs.ChangeLemmas.{length-settled, settled-same, settled-sum_size}
 use Rattle.hold_proof.proofs.WorkLemmas.{leaf-settled}
 use Rattle.hold_proof.proofs.settling.settle_leaf.Goals as goal

@@ -1,14 +1,13 @@
-use Rattle.std.proofs.Common.{◌≡◌, ◌+◌, ◌*◌, ◌≤◌, length, replicate, rules, ap, sym, ◌∙◌, subst, arith, FitsSigned}
-use Rattle.std.specs.Prelude.{ℕ, List, ℤ, pos, ◌+ℤ◌}
+use Rattle.std.proofs.Common.{◌*◌, length, rules, ap, ◌∙◌, subst, arith, FitsSigned}
+use Rattle.std.specs.Prelude.{ℕ, List, ℤ, pos}
 use Rattle.std.proofs.lemmas.Int.{ints, to_z-of_z}
 use Rattle.std.proofs.lemmas.List.{length-replicate}
 use mir.Syntax.{w128}
-use Rattle.hold_base.specs.Limits.{chain_limit, kinds_limit}
+use Rattle.hold_base.specs.Limits.{kinds_limit}
 use Rattle.hold_base.specs.declared.number.PathNo.{PathNo}
 use Rattle.hold_base.specs.declared.number.SiteNo.{SiteNo}
-use Rattle.hold_graph.specs.Problem.{IsWithin}
 use Rattle.hold_proof.specs.inner.Basis.{total}
-use Rattle.hold_proof.specs.inner.Changes.{IsRaised, free_limit, norm_limit, path_unit}
+use Rattle.hold_proof.specs.inner.Changes.{IsRaised, path_unit}
 use Rattle.hold_proof.specs.inner.Forms.{norm}
 use Rattle.hold_proof.specs.inner.LeafTerms.{chains_free, chains_terms, paths_free, paths_terms}
 use Rattle.hold_proof.proofs.ChangeLemmas.{length-raised}

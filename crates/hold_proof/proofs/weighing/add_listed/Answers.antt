@@ -1,4 +1,4 @@
-use Rattle.std.proofs.Common.{◌≡◌, ◌+◌, ◌-◌, ◌*◌, ◌<◌, ◌≤◌, length, get_or, drop, rules, ap, sym, ◌∙◌, arith, FitsSigned}
+use Rattle.std.proofs.Common.{◌*◌, ◌≤◌, length, drop, rules, ap, ◌∙◌, arith, FitsSigned}
 use Rattle.std.specs.Prelude.{List}
 use Rattle.std.proofs.lemmas.Int.{to_z-of_z}
 use Rattle.std.proofs.lemmas.List.{length-drop}

@@ -1,4 +1,4 @@
-use Rattle.std.proofs.Common.{◌≡◌, ◌≤◌, length, ap, arith}
+use Rattle.std.proofs.Common.{length, ap, arith}
 use Rattle.std.specs.Prelude.{List}
 use Rattle.hold_base.specs.declared.number.PinNo.{PinNo}
 use Rattle.hold_proof.proofs.SiteLemmas.{path-long}

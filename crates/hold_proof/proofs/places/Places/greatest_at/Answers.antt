@@ -1,4 +1,4 @@
-use Rattle.std.proofs.Common.{◌≡◌, ◌+◌, ◌<◌, length, get_or, drop, refl, rules, sym, ap, ◌∙◌, subst, None, Some, pos, FitsSigned, arith}
+use Rattle.std.proofs.Common.{◌+◌, ◌<◌, length, get_or, drop, refl, rules, sym, ap, ◌∙◌, subst, None, pos, FitsSigned, arith}
 use Rattle.std.proofs.lemmas.Int.{to_z-of_z}
 use Rattle.std.proofs.lemmas.List.{get_or_read}
 use mir.Syntax.{w64}

@@ -1,6 +1,5 @@
-use Rattle.std.proofs.Common.{◌≡◌, ◌+◌, ◌<◌, length, get_or, drop, refl, rules, sym, ap, ◌∙◌, subst, None, Some, pos, arith}
+use Rattle.std.proofs.Common.{◌+◌, ◌<◌, length, drop, refl, rules, sym, ap, ◌∙◌, subst, None, pos, arith}
 use Rattle.std.proofs.lemmas.List.{get_or_read}
-use Rattle.hold_base.specs.Interval.{hull_of}
 use Rattle.hold_graph.specs.Sums.{items_at}
 use Rattle.hold_proof.specs.inner.Places.{hull_after, hull_or_none, links_left}
 use Rattle.hold_proof.proofs.PlaceLemmas.{next-is, linked-on, links-fewer, hull-end, hull_or_none-hull}
