@@ -7,8 +7,9 @@
 --   number and how often.
 -- certificate_lines certificate: the head, the claim, the listed paths, the nodes of the tree in preorder, and the end.
 -- certificate_text certificate: these lines, each ended.
--- IsInRange certificate: each number has the range of its type: those of variables, sites and pins are below 2^32, corners, counts
---   and places below 2^8, the cost and the numbers of paths below 2^64. Of a certificate that is held in memory this always holds.
+-- IsInRange certificate: each number that nothing else bounds has the range of its type: those of variables, sites and pins are
+--   below 2^32, corners and counts below 2^8, the cost and the numbers of paths below 2^64. Of a certificate that is held in memory
+--   this always holds. A spellable one bounds places, scales and multiples more closely.
 -- IsFaultOf text fault: the fault is at the first line that can't stand there.
 -- IsTextOf text certificate: the certificate is spellable, and the text is its text.
 -- IsLinesOf lines certificate: the certificate is spellable, and these are its lines.

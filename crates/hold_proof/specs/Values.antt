@@ -6,7 +6,8 @@
 -- paths_value problem sites paths counts terms: the sum of these multiples of the excesses of listed paths.
 -- chains_value problem counts terms: the sum of these multiples of what the chain limits leave.
 -- leaf_value problem sites paths leaf counts: the scale times the cost of the counts, less the leaf's multiples of excesses and
---   of what the chain limits leave. Where the counts are a buffering that meets, that is at most the scale times the cost.
+--   of what the chain limits leave. Of a fit leaf, and of counts that are a buffering that meets, that is at most the scale times the
+--   cost.
 -- IsBeta problem sites paths leaf box beta: beta is the least value of the leaf over the points of the box.
 use Rattle.std.specs.Prelude.{◌≡◌, ℕ, ◌*◌, List, [], ◌∷◌, length, Option, Some, None, slice_get, ℤ, pos, ◌+ℤ◌, ◌-ℤ◌, ◌*ℤ◌, ◌≤ℤ◌}
 use Rattle.hold_base.specs.declared.number.PathNo.{PathNo}

@@ -4,7 +4,7 @@
 -- side_text side: `early` or `late`.
 -- slack_text end: the slack of an end in fs, in decimal, with a minus sign below 0; `none` where no path is checked.
 -- capture_text d end: how the capture is said (`pin_text` of the netlist); `-` where no path is checked.
--- row_text d corner side end: a row, up to its newline: the corner's name, the side, the slack and the capture, a space between two.
+-- row_text d corner side end: a row, with its newline: the corner's name, the side, the slack and the capture, a space between two.
 -- WorstEnds: the worst ends of a corner's checked paths, early and late; none where no path is checked.
 -- rows_text d corner ends: the early row of a corner, and then its late row.
 -- table_text d corners ends: the rows of each corner, in order. A corner without ends, or ends without a corner, has none.
