@@ -25,9 +25,6 @@ cleared-append : (first rest : List ℕ) (factors : List ℤ) → cleared (first
 cleared-append [] rest factors = refl
 cleared-append (var ∷ first) rest factors = cleared-append first rest (set factors var (pos 0))
 
-pub raised-none : (factors : List ℤ) → IsRaised [] 0 factors factors
-raised-none factors = record { factors = refl; norm = omega arith }
-
 pub raised-then : (first rest : List (ℕ × ℤ)) (a b most : ℕ) (old now new : List ℤ) → IsRaised first a old now → IsRaised rest b now new → a + b ≤ most → IsRaised (first ++ rest) most old new
 raised-then first rest a b most old now new one two fits =
     let grown = one.norm in
@@ -41,12 +38,6 @@ raised-more terms xs i x a b most old now new there is one two fits =
     let whole : flat_map terms (take i xs) ++ terms x ≡ flat_map terms (take (i + 1) xs) =
     flat_map_more terms [] (take i xs) x ∙ ap (λ l. flat_map terms (take i xs ++ l ∷ [])) is ∙ ap (flat_map terms) (sym (take_more xs i x there)) in
     rw (← whole) (raised-then (flat_map terms (take i xs)) (terms x) a b most old now new one two fits)
-
--- one item that brings none
-pub raised-skip : {X : Type 0} (terms : X → List (ℕ × ℤ)) (xs : List X) (i : ℕ) (x : X) (a most : ℕ) (old now : List ℤ) → i < length xs → x ≡ get_or xs i x →
-    IsRaised (flat_map terms (take i xs)) a old now → terms x ≡ [] → a ≤ most → IsRaised (flat_map terms (take (i + 1) xs)) most old now
-raised-skip terms xs i x a most old now there is one none fits =
-    raised-more terms xs i x a 0 most old now now there is one (rw none (raised-none now)) (omega (arith, fits))
 
 -- one term
 pub raised-one : (var : ℕ) (number : ℤ) (old new : List ℤ) → var < length old → new ≡ raised old var number → IsRaised ((var, number) ∷ []) (unsigned_abs number) old new
@@ -88,12 +79,6 @@ settled-more costs scale lows highs vars xs i x old now new a b there is one two
     let whole : flat_map vars (take i xs) ++ vars x ≡ flat_map vars (take (i + 1) xs) =
     flat_map_more vars [] (take i xs) x ∙ ap (λ l. flat_map vars (take i xs ++ l ∷ [])) is ∙ ap (flat_map vars) (sym (take_more xs i x there)) in
     rw (← whole) (settled-then costs scale lows highs (flat_map vars (take i xs)) (vars x) old now new a b one two)
-
-pub settled-skip : {X : Type 0} (costs : List ℕ) (scale : ℕ) (lows highs : List ℕ) (vars : X → List ℕ) (xs : List X) (i : ℕ) (x : X) (old now : List ℤ) (a : ℤ) → i < length xs → x ≡ get_or xs i x →
-    IsSettled costs scale lows highs (flat_map vars (take i xs)) old now a → vars x ≡ [] → IsSettled costs scale lows highs (flat_map vars (take (i + 1) xs)) old now a
-settled-skip costs scale lows highs vars xs i x old now a there is one none =
-    let same : a +ℤ pos 0 ≡ a = omega (arith, ints) in
-    rw (← same) (settled-more costs scale lows highs vars xs i x old now now a (pos 0) there is one (rw none (settled-none costs scale lows highs now)))
 
 -- one variable
 pub settled-one : (costs : List ℕ) (scale : ℕ) (lows highs : List ℕ) (var : ℕ) (old new : List ℤ) (sum : ℤ) → var < length old → length old ≡ length lows → length lows ≡ length highs →

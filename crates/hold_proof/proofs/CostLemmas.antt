@@ -1,7 +1,7 @@
 -- The cost of counts: what a change of one does to it, and how much it may be.
-use Rattle.std.proofs.Common.{◌≡◌, ℕ, zero, suc, ◌+◌, ◌-◌, ◌*◌, ◌%◌, ◌<◌, ◌≤◌, List, [], ◌∷◌, length, get_or, set, drop, inl, inr, ap, ◌∙◌, arith}
+use Rattle.std.proofs.Common.{◌≡◌, ℕ, zero, suc, ◌+◌, ◌-◌, ◌*◌, ◌%◌, ◌<◌, ◌≤◌, List, [], ◌∷◌, length, get_or, set, inl, inr, ap, ◌∙◌, arith}
 use Rattle.std.specs.Prelude.{All}
-use Rattle.std.proofs.lemmas.List.{get_or_past, drop_more}
+use Rattle.std.proofs.lemmas.List.{get_or_past}
 use Rattle.std.proofs.lemmas.Bool.{cases_order}
 use Rattle.std.proofs.Math.Nat.{mul-le-mul_left, mul-le-mul_right}
 use Rattle.hold_base.specs.Limits.{cost_limit}
@@ -46,11 +46,6 @@ cost_from-most costs first (count ∷ counts) most bytes =
     let one = mul-le-mul_left count (cost-most costs (first % length costs) most) in
     let many = mul-le-mul_right cost_limit small in
     omega (arith, rest, one, many)
-
--- one count more
-pub cost_from-drop : (costs : List ℕ) (counts : List ℕ) (var : ℕ) → var < length counts →
-    cost_from costs var (drop var counts) ≡ get_or counts var 0 * get_or costs (var % length costs) 0 + cost_from costs (var + 1) (drop (var + 1) counts)
-cost_from-drop costs counts var there = ap (cost_from costs var) (drop_more counts var 0 there)
 
 -- a cost once one count has changed
 pub changed-takes : (costs counts : List ℕ) (var cost old each : ℕ) → cost ≡ cost_of costs counts → each ≡ get_or costs (var % length costs) 0 → old ≡ get_or counts var 0 → old * each ≤ cost

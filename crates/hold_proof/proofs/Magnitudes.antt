@@ -1,6 +1,6 @@
 -- Magnitudes of signed numbers: how they bound a number, and those of sums and products.
 use Rattle.std.proofs.Common.{◌≡◌, ℕ, zero, suc, ◌+◌, ◌*◌, ◌≤◌, refl, arith}
-use Rattle.std.specs.Prelude.{ℤ, pos, negsuc, neg_ℤ, ◌+ℤ◌, ◌-ℤ◌, ◌*ℤ◌, unsigned_abs}
+use Rattle.std.specs.Prelude.{ℤ, pos, negsuc, neg_ℤ, ◌+ℤ◌, ◌*ℤ◌, unsigned_abs}
 use Rattle.std.proofs.Math.Nat.{mul-le-mul_left, mul-le-mul_right}
 use Rattle.std.proofs.lemmas.Int.{ints, unsigned_abs-mul}
 use Rattle.hold_graph.specs.Problem.{IsWithin}
@@ -18,12 +18,6 @@ unsigned_abs-add a b =
     let first = bounded a (unsigned_abs a) (omega arith) in
     let second = bounded b (unsigned_abs b) (omega arith) in
     unsigned_abs-le (a +ℤ b) (unsigned_abs a + unsigned_abs b) (record { low = omega (arith, ints, first.low, second.low); high = omega (arith, ints, first.high, second.high) })
-
-pub unsigned_abs-sub : (a b : ℤ) → unsigned_abs (a -ℤ b) ≤ unsigned_abs a + unsigned_abs b
-unsigned_abs-sub a b =
-    let first = bounded a (unsigned_abs a) (omega arith) in
-    let second = bounded b (unsigned_abs b) (omega arith) in
-    unsigned_abs-le (a -ℤ b) (unsigned_abs a + unsigned_abs b) (record { low = omega (arith, ints, first.low, second.high); high = omega (arith, ints, first.high, second.low) })
 
 pub unsigned_abs-neg : (a : ℤ) → unsigned_abs (neg_ℤ a) ≡ unsigned_abs a
 unsigned_abs-neg (pos zero) = refl

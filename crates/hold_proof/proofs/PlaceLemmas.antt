@@ -1,26 +1,17 @@
 -- Lists by pin: links from one place of a pin to the next, and hulls over them.
-use Rattle.std.proofs.Common.{◌≡◌, ◌≢◌, ℕ, suc, ◌+◌, ◌<◌, ◌≤◌, ◌==◌, true, false, List, [], ◌∷◌, length, get_or, set, drop, replicate, refl, sym, ap, ◌∙◌, ◌⊎◌, inl, inr, arith}
+use Rattle.std.proofs.Common.{◌≡◌, ◌≢◌, ℕ, suc, ◌+◌, ◌<◌, ◌≤◌, ◌==◌, true, false, List, [], ◌∷◌, length, get_or, set, drop, refl, sym, ap, ◌∙◌, ◌⊎◌, inl, inr, arith}
 use Rattle.std.specs.Prelude.{Option, Some, None, slice_get, fold, ℤ}
 use Rattle.std.specs.Int.{int_max}
 use Rattle.std.proofs.lemmas.Bool.{cases_order}
 use Rattle.std.proofs.lemmas.Bool.Decides.{nat_tests}
 use Rattle.std.proofs.lemmas.Option.{none-some, same_Some, slice_get_within, slice_get-get_or, get_or_from_slice_get}
-use Rattle.std.proofs.lemmas.List.{length-set, length-replicate, get_or-set_same, get_or-set_other, length-drop, get_or-drop, drop-drop, drop_all, drop_more, get_or-replicate}
+use Rattle.std.proofs.lemmas.List.{length-set, get_or-set_same, get_or-set_other, length-drop, get_or-drop, drop-drop, drop_more}
 use Rattle.hold_base.proofs.Bools.{cond-cases}
 use Rattle.hold_base.specs.Interval.{hull, hull_of}
 use Rattle.hold_base.specs.declared.number.PinNo.{PinNo}
 use Rattle.hold_base.specs.declared.time.Interval.{Interval}
 use Rattle.hold_graph.specs.Sums.{items_at, greatest_of}
 use Rattle.hold_proof.specs.inner.Places.{place_from, next_place, AreLinked, links_left, hull_or_none, hull_after, time_or_none, greatest_after}
-
--- before anything is entered
-pub linked-none : (count : ℕ) (pins : List PinNo) → AreLinked count pins (length pins) (replicate count None) (replicate (length pins) None)
-linked-none count pins = record {
-  first_each = length-replicate count None;
-  next_each = length-replicate (length pins) None;
-  firsts = λ pin there. get_or-replicate count pin.0 None None there ∙ ap (λ l. place_from (length pins) l pin) (sym (drop_all (length pins) pins (omega arith)));
-  nexts = λ place pin past at. absurd (past (slice_get_within pins place pin at));
-}
 
 drop-at : (pins : List PinNo) (place : ℕ) (pin : PinNo) → slice_get pins place ≡ Some pin → drop place pins ≡ pin ∷ drop (place + 1) pins
 drop-at pins place pin at =

@@ -25,7 +25,7 @@ use Rattle.hold_proof.specs.Closing.{weight_of, IsOfProblem, ListsChecked}
 use Rattle.hold_proof.specs.inner.Basis.{total}
 use Rattle.hold_proof.specs.inner.Changes.{IsRaised, free_limit, path_unit, site_unit}
 use Rattle.hold_proof.specs.inner.Forms.{added}
-use Rattle.hold_proof.specs.inner.LeafTerms.{free_excess, corner_free, paths_free, chains_free, pins_terms, var_terms, site_terms, path_numbers, path_terms, corner_terms, listed_terms, paths_terms, chains_terms, pins_vars, path_vars, corner_vars, listed_vars}
+use Rattle.hold_proof.specs.inner.LeafTerms.{free_excess, corner_free, paths_free, chains_free, pins_terms, var_terms, site_terms, path_numbers, path_terms, corner_terms, listed_terms, paths_terms, chains_terms, pins_vars, path_vars}
 use Rattle.hold_proof.proofs.ChangeLemmas.{raised-more}
 use Rattle.hold_proof.proofs.Magnitudes.{bounded, unsigned_abs-le, unsigned_abs-times_right}
 
@@ -104,11 +104,6 @@ listed_terms-in : (problem : Problem) (sites : List PinNo) (paths : List Listed)
     listed_terms problem sites times (slice_get paths number.0) ≡ pins_terms (length problem.costs) sites (path_numbers path.side times spans.kinds) (drop 1 path.pins)
 listed_terms-in problem sites paths number times path spans listed =
     ap (listed_terms problem sites times) listed.at ∙ ap (corner_terms problem sites times path) listed.corner ∙ path_terms-steps (length problem.costs) sites (path_numbers path.side times spans.kinds) path.pins
-
-listed_vars-in : (problem : Problem) (sites : List PinNo) (paths : List Listed) (number : PathNo) (path : Listed) (spans : Spans) → IsListedIn problem paths number path spans →
-    listed_vars problem sites (slice_get paths number.0) ≡ pins_vars (length problem.costs) sites (drop 1 path.pins)
-listed_vars-in problem sites paths number path spans listed =
-    ap (listed_vars problem sites) listed.at ∙ ap (corner_vars (length problem.costs) sites path) listed.corner ∙ path_vars-steps (length problem.costs) sites path.pins
 
 free_excess-in : (problem : Problem) (paths : List Listed) (number : PathNo) (path : Listed) (spans : Spans) → IsListedIn problem paths number path spans →
     free_excess problem (slice_get paths number.0) ≡ excess path.side problem spans no_buffers path.pins
