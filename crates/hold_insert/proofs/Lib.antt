@@ -1,0 +1,12 @@
+pub mod TiedLemmas
+pub mod SolvedLemmas
+pub mod StepLemmas
+pub mod NewNameLemmas
+pub mod DoubleLemmas
+pub mod ValidLemmas
+pub mod InsertedLemmas
+pub mod DriveLemmas
+pub mod SiteLemmas
+pub mod ChainLemmas
+pub mod ReadyLemmas
+pub mod NumberLemmas

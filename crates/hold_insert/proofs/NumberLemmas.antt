@@ -1,0 +1,70 @@
+-- A number is read from its own text, up to the first underscore, and from no other.
+use Rattle.std.proofs.Common.{◌≡◌, ℕ, zero, suc, ◌+◌, ◌<◌, ◌^◌, List, [], ◌∷◌, ◌++◌, length, get_or, take, drop, refl, sym, ap, ◌∙◌, ◌⊎◌, inl, inr, arith, append_assoc}
+use Rattle.std.specs.Prelude.{codes, decimal}
+use Rattle.std.specs.List.{AllByRecursion}
+use Rattle.std.specs.Str.{IsUtf8}
+use Rattle.std.proofs.lemmas.Bool.{cases_order}
+use Rattle.std.proofs.lemmas.Fmt.{IsAscii-decimal}
+use Rattle.std.proofs.lemmas.List.{drop_more, take-append-drop}
+use Rattle.std.proofs.lemmas.Str.{IsUtf8-from_ascii}
+use Rattle.hold_insert.specs.NewNames.{stem, BeginsWith}
+use Rattle.hold_insert.proofs.NewNameLemmas.{IsDigit, decimal-digits}
+
+pub utf8-decimal : (text : List ℕ) (n : ℕ) → n < 2 ^ 64 → text ≡ decimal n → IsUtf8 text
+utf8-decimal text n small is = rw is (IsUtf8-from_ascii (decimal n) (IsAscii-decimal n small))
+
+-- ---- where the underscore behind digits stands
+
+digit-at : (ds rest : List ℕ) (j : ℕ) → AllByRecursion IsDigit ds → j < length ds → get_or ((ds ++ codes "_") ++ rest) j 0 ≡ 95 → ⊥
+digit-at [] rest j digits lt is = omega arith
+digit-at (d ∷ ds) rest zero digits lt is = let most = digits.0.1 in omega arith
+digit-at (d ∷ ds) rest (suc j) digits lt is = digit-at ds rest j digits.1 (omega arith) is
+
+underscore-at : (ds rest : List ℕ) → get_or ((ds ++ codes "_") ++ rest) (length ds) 0 ≡ 95
+underscore-at [] rest = refl
+underscore-at (d ∷ ds) rest = underscore-at ds rest
+
+underscore-inside : (ds rest : List ℕ) → length ds < length ((ds ++ codes "_") ++ rest)
+underscore-inside [] rest = omega arith
+underscore-inside (d ∷ ds) rest = omega (arith, underscore-inside ds rest)
+
+digits-front : (ds rest : List ℕ) → take (length ds) ((ds ++ codes "_") ++ rest) ≡ ds
+digits-front [] rest = refl
+digits-front (d ∷ ds) rest = ap (λ l. d ∷ l) (digits-front ds rest)
+
+-- a text that begins with a number and an underscore has its first underscore there
+pub begins-first : (text : List ℕ) (n k : ℕ) → n < 2 ^ 32 → BeginsWith (decimal n ++ codes "_") text → get_or text k 0 ≡ 95
+    → ((j : ℕ) → j < k → get_or text j 0 ≡ 95 → ⊥) → take k text ≡ decimal n
+begins-first text n k small begins at before = by (cases_order k (length (decimal n)))
+  where
+    whole : text ≡ (decimal n ++ codes "_") ++ begins.0
+    whole = begins.1
+
+    by : (k ≡ length (decimal n)) ⊎ ((k < length (decimal n)) ⊎ (length (decimal n) < k)) → take k text ≡ decimal n
+    by (inl e) = ap (λ j. take j text) e ∙ ap (take (length (decimal n))) whole ∙ digits-front (decimal n) begins.0
+    by (inr (inl lt)) = absurd (digit-at (decimal n) begins.0 k (decimal-digits n (omega arith)) lt (ap (λ (l : List ℕ). get_or l k 0) (sym whole) ∙ at))
+    by (inr (inr lt)) = absurd (before (length (decimal n)) lt (ap (λ (l : List ℕ). get_or l (length (decimal n)) 0) whole ∙ underscore-at (decimal n) begins.0))
+
+pub begins-some : (text : List ℕ) (n : ℕ) → BeginsWith (decimal n ++ codes "_") text → ((j : ℕ) → j < length text → get_or text j 0 ≡ 95 → ⊥) → ⊥
+begins-some text n begins none =
+    let whole : text ≡ (decimal n ++ codes "_") ++ begins.0 = begins.1 in
+    let inside = underscore-inside (decimal n) begins.0 in
+    none (length (decimal n)) (omega (arith, ap (λ (l : List ℕ). length l) whole)) (ap (λ (l : List ℕ). get_or l (length (decimal n)) 0) whole ∙ underscore-at (decimal n) begins.0)
+
+-- and digits before an underscore begin the text
+pub begins-from : (text digits : List ℕ) (n k : ℕ) → digits ≡ take k text → digits ≡ decimal n → k < length text → get_or text k 0 ≡ 95 → BeginsWith (decimal n ++ codes "_") text
+begins-from text digits n k front is inside at = (
+  drop (k + 1) text,
+  sym (take-append-drop k text)
+      ∙ ap (λ l. l ++ drop k text) (sym front ∙ is)
+      ∙ ap (λ l. decimal n ++ l) (drop_more text k 0 inside ∙ ap (λ x. x ∷ drop (k + 1) text) at)
+      ∙ sym (append_assoc (decimal n) (codes "_") (drop (k + 1) text)),
+)
+
+-- ---- the letters in front
+
+five : (a b c d e : ℕ) (xs ys : List ℕ) → a ∷ b ∷ c ∷ d ∷ e ∷ xs ≡ a ∷ b ∷ c ∷ d ∷ e ∷ ys → xs ≡ ys
+five a b c d e xs ys h = ap (drop 5) h
+
+pub stem-rest : (n : ℕ) (rest : List ℕ) → BeginsWith (stem n) (codes "hold_" ++ rest) → BeginsWith (decimal n ++ codes "_") rest
+stem-rest n rest begins = (begins.0, ap (drop 5) begins.1)

@@ -1,0 +1,5 @@
+pub mod NewNames
+pub mod Chains
+pub mod Padded
+pub mod Premises
+pub mod inner

@@ -1,0 +1,2 @@
+//! Padding: the netlist into which buffers are put in front of single pins, as counts ask for.
+#![tactic(auto)]
