@@ -10,3 +10,4 @@ pub mod SiteLemmas
 pub mod ChainLemmas
 pub mod ReadyLemmas
 pub mod NumberLemmas
+pub mod UsedLemmas

@@ -15,12 +15,12 @@ utf8-decimal text n small is = rw is (IsUtf8-from_ascii (decimal n) (IsAscii-dec
 
 -- ---- where the underscore behind digits stands
 
-digit-at : (ds rest : List ℕ) (j : ℕ) → AllByRecursion IsDigit ds → j < length ds → get_or ((ds ++ codes "_") ++ rest) j 0 ≡ 95 → ⊥
+pub digit-at : (ds rest : List ℕ) (j : ℕ) → AllByRecursion IsDigit ds → j < length ds → get_or ((ds ++ codes "_") ++ rest) j 0 ≡ 95 → ⊥
 digit-at [] rest j digits lt is = omega arith
 digit-at (d ∷ ds) rest zero digits lt is = let most = digits.0.1 in omega arith
 digit-at (d ∷ ds) rest (suc j) digits lt is = digit-at ds rest j digits.1 (omega arith) is
 
-underscore-at : (ds rest : List ℕ) → get_or ((ds ++ codes "_") ++ rest) (length ds) 0 ≡ 95
+pub underscore-at : (ds rest : List ℕ) → get_or ((ds ++ codes "_") ++ rest) (length ds) 0 ≡ 95
 underscore-at [] rest = refl
 underscore-at (d ∷ ds) rest = underscore-at ds rest
 
@@ -28,7 +28,7 @@ underscore-inside : (ds rest : List ℕ) → length ds < length ((ds ++ codes "_
 underscore-inside [] rest = omega arith
 underscore-inside (d ∷ ds) rest = omega (arith, underscore-inside ds rest)
 
-digits-front : (ds rest : List ℕ) → take (length ds) ((ds ++ codes "_") ++ rest) ≡ ds
+pub digits-front : (ds rest : List ℕ) → take (length ds) ((ds ++ codes "_") ++ rest) ≡ ds
 digits-front [] rest = refl
 digits-front (d ∷ ds) rest = ap (λ l. d ∷ l) (digits-front ds rest)
 

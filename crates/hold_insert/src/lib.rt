@@ -1,2 +1,5 @@
 //! Padding: the netlist into which buffers are put in front of single pins, as counts ask for.
 #![tactic(auto)]
+
+mod fresh;
+mod number;
