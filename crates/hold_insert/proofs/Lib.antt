@@ -11,3 +11,4 @@ pub mod ChainLemmas
 pub mod ReadyLemmas
 pub mod NumberLemmas
 pub mod UsedLemmas
+pub mod SourceLemmas

@@ -46,6 +46,7 @@ fn number_before(text: &[u8]) -> Option<u32>
 
 /// The number whose new names a name looks like one of: it begins with `hold_`, the number and `_`.
 pub(crate) fn number_of(name: &[u8]) -> Option<u32>
+    ensures small { IfSome result (λ n. n < 2 ^ 32) }
     ensures some { IfSome result (λ n. BeginsWith (stem n) name.now) }
     ensures none { IsNone result → (n : ℕ) → n < 2 ^ 32 → BeginsWith (stem n) name.now → ⊥ }
 {
