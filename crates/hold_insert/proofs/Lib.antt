@@ -12,3 +12,4 @@ pub mod ReadyLemmas
 pub mod NumberLemmas
 pub mod UsedLemmas
 pub mod SourceLemmas
+pub mod GrownLemmas

@@ -1,5 +1,5 @@
 -- Instances by what their connections are tied to: to tie one is to set one source.
-use Rattle.std.proofs.Common.{◌≡◌, ℕ, zero, suc, ◌+◌, ◌-◌, ◌<◌, ◌≤◌, List, [], ◌∷◌, ◌++◌, length, get_or, set, drop, map, Bool, true, false, cond, refl, sym, ap, ◌∙◌, ◌⊎◌, inl, inr, arith}
+use Rattle.std.proofs.Common.{◌≡◌, ℕ, zero, suc, ◌+◌, ◌-◌, ◌<◌, ◌≤◌, List, [], ◌∷◌, ◌++◌, length, get_or, set, drop, Bool, true, false, cond, refl, sym, ap, ◌∙◌, ◌⊎◌, inl, inr, arith}
 use Rattle.std.specs.Prelude.{nat_lt}
 use Rattle.std.proofs.lemmas.Bool.Decides.{nat_tests}
 use Rattle.std.proofs.lemmas.Bool.{cases_lt}
@@ -101,7 +101,7 @@ tied-set (i ∷ is) ss p s few lt = by (cases_lt p (length i.pins)) (tied-set is
 
     by : (p < length i.pins) ⊎ (length i.pins ≤ p)
         → (connection_count is ≤ length (drop (length i.pins) ss) → p - length i.pins < connection_count is
-            → tied (with_sources is (drop (length i.pins) ss)) (p - length i.pins) s ≡ with_sources is (set (drop (length i.pins) ss) (p - length i.pins) s))
+        → tied (with_sources is (drop (length i.pins) ss)) (p - length i.pins) s ≡ with_sources is (set (drop (length i.pins) ss) (p - length i.pins) s))
         → tied (with_sources (i ∷ is) ss) p s ≡ with_sources (i ∷ is) (set ss p s)
     by (inl low) later =
         ap (λ n. whole (nat_lt p n) n) long ∙ ap (λ b. whole b (length i.pins)) (true-lt p (length i.pins) low)
@@ -130,7 +130,7 @@ read-source (i ∷ is) ss p few lt = by (cases_lt p (length i.pins)) (read-sourc
 
     by : (p < length i.pins) ⊎ (length i.pins ≤ p)
         → (connection_count is ≤ length (drop (length i.pins) ss) → p - length i.pins < connection_count is
-            → source_at (with_sources is (drop (length i.pins) ss)) (p - length i.pins) ≡ get_or (drop (length i.pins) ss) (p - length i.pins) Empty)
+        → source_at (with_sources is (drop (length i.pins) ss)) (p - length i.pins) ≡ get_or (drop (length i.pins) ss) (p - length i.pins) Empty)
         → source_at (with_sources (i ∷ is) ss) p ≡ get_or ss p Empty
     by (inl low) later =
         ap (λ n. whole (nat_lt p n) n) long ∙ ap (λ b. whole b (length i.pins)) (true-lt p (length i.pins) low) ∙ pin-read i.pins ss p low (omega (arith, more))
@@ -183,5 +183,10 @@ pub count-with : (insts : List Inst) (ss : List Source) → connection_count ins
 count-with [] ss few = refl
 count-with (i ∷ is) ss few =
     let more = sum_by-cons pin_count i is in
-    omega (arith, more, sum_by-cons pin_count (with_pins i (with_pin_sources i.pins ss)) (with_sources is (drop (length i.pins) ss)), length-with i.pins ss (omega (arith, more)),
-      count-with is (drop (length i.pins) ss) (omega (arith, more, length-drop (length i.pins) ss)))
+    omega (
+      arith,
+      more,
+      sum_by-cons pin_count (with_pins i (with_pin_sources i.pins ss)) (with_sources is (drop (length i.pins) ss)),
+      length-with i.pins ss (omega (arith, more)),
+      count-with is (drop (length i.pins) ss) (omega (arith, more, length-drop (length i.pins) ss)),
+    )

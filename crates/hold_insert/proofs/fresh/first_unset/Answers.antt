@@ -1,4 +1,4 @@
-use Rattle.std.proofs.Common.{◌<◌, length, arith}
+use Rattle.std.proofs.Common.{arith}
 use Rattle.hold_insert.proofs.UsedLemmas.{all-set}
 use Rattle.hold_insert.proofs.fresh.first_unset.Goals as goal
 

@@ -1,4 +1,4 @@
-use Rattle.std.proofs.Common.{◌<◌, length, refl, sym, ◌∙◌, arith}
+use Rattle.std.proofs.Common.{refl, sym, ◌∙◌, arith}
 use Rattle.hold_insert.proofs.UsedLemmas.{marked-at, marked-none, marked-past}
 use Rattle.hold_insert.proofs.fresh.mark.Goals as goal
 

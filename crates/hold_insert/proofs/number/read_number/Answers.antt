@@ -1,5 +1,5 @@
-use Rattle.std.proofs.Common.{◌≡◌, ◌<◌, ap, sym, ◌∙◌, arith, rules}
-use Rattle.std.specs.Prelude.{◌^◌, decimal}
+use Rattle.std.proofs.Common.{◌≡◌, ap, sym, ◌∙◌, arith}
+use Rattle.std.specs.Prelude.{decimal}
 use Rattle.std.proofs.lemmas.Fmt.{parse-decimal}
 use Rattle.hold_base.proofs.Bytes.{bytes_eq-apart}
 use Rattle.hold_insert.proofs.NumberLemmas.{utf8-decimal}
