@@ -13,3 +13,4 @@ pub mod NumberLemmas
 pub mod UsedLemmas
 pub mod SourceLemmas
 pub mod GrownLemmas
+pub mod PadLemmas

@@ -78,7 +78,7 @@ module _ (b : Binding) (graph : Parts) (of : IsTimingGraphOf b graph) (no_loop :
   abbrev puts : List Insertion
   puts = insertions kinds sites (buffers_of (length kinds) sites counts)
 
-  sites-below : All (λ (pin : PinNo). pin.0 < connection_count b.netlist.insts) sites
+  pub sites-below : All (λ (pin : PinNo). pin.0 < connection_count b.netlist.insts) sites
   sites-below = All-weaker (IsSite graph) (λ (pin : PinNo). pin.0 < connection_count b.netlist.insts) (site-below b graph of no_loop) sites are.sound
 
   pub sites-few : length sites ≤ bound_pins_limit

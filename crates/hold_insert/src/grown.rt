@@ -91,7 +91,8 @@ impl Grown {
         requires pins { All (λ put. put.pin.0 < length self.old.sources.items) puts.now }
         requires bits { bits ≡ bits_of self.old.wires.items }
         requires few { bits + length puts.now ≤ 2 ^ 31 }
-        ensures { OnOk result ((d : Design) → connection_count d.insts ≡ length self.old.sources.items →
+        ensures sources { OnOk result (length self.new.sources.items ≡ length self.old.sources.items) }
+        ensures made { OnOk result ((d : Design) → connection_count d.insts ≡ length self.old.sources.items →
             grown_design d self.new ≡ inserted number 0 (insertions_of puts.now) (grown_design d self.old)) }
     {
         for (place, put) in puts.iter().enumerate() {
