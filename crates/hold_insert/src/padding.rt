@@ -17,7 +17,7 @@ use crate::fresh::fresh_number;
 use crate::grown::Grown;
 use crate::puts::puts_of;
 use crate::sources::{sources_of, with_sources};
-use hold_base::Memory;
+use hold_base::{Memory, Stop};
 use hold_graph::{Counts, Graph};
 use hold_netlist::{Kind, Netlist};
 use hold_roles::Bound;
@@ -47,10 +47,10 @@ fn netlist_of(alloc: Global, netlist: &Netlist, grown: Grown) -> Result<Netlist,
     let mut insts = with_sources(alloc, netlist.insts(), sources.as_slice())?;
     insts.append(&mut buffers)?;
     let assigns = Vec::from_slice(alloc, netlist.assigns())?;
-    // a valid netlist has no fault, so only memory can be wanting
     match Netlist::make(alloc, name, ports, wires, insts, assigns) {
         Ok(padded) => Ok(padded),
-        Err(_) => Err(Memory),
+        Err(Stop::Memory) => Err(Memory),
+        Err(Stop::Fault(_)) => unreachable!(),
     }
 }
 
