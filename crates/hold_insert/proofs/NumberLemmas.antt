@@ -24,10 +24,6 @@ underscore-at : (ds rest : List ℕ) → get_or ((ds ++ codes "_") ++ rest) (len
 underscore-at [] rest = refl
 underscore-at (d ∷ ds) rest = underscore-at ds rest
 
-underscore-inside : (ds rest : List ℕ) → length ds < length ((ds ++ codes "_") ++ rest)
-underscore-inside [] rest = omega arith
-underscore-inside (d ∷ ds) rest = omega (arith, underscore-inside ds rest)
-
 digits-front : (ds rest : List ℕ) → take (length ds) ((ds ++ codes "_") ++ rest) ≡ ds
 digits-front [] rest = refl
 digits-front (d ∷ ds) rest = ap (λ l. d ∷ l) (digits-front ds rest)
@@ -45,12 +41,6 @@ begins-first text n k small begins at before = by (cases_order k (length (decima
     by (inr (inl lt)) = absurd (digit-at (decimal n) begins.0 k (decimal-digits n (omega arith)) lt (ap (λ (l : List ℕ). get_or l k 0) (sym whole) ∙ at))
     by (inr (inr lt)) = absurd (before (length (decimal n)) lt (ap (λ (l : List ℕ). get_or l (length (decimal n)) 0) whole ∙ underscore-at (decimal n) begins.0))
 
-pub begins-some : (text : List ℕ) (n : ℕ) → BeginsWith (decimal n ++ codes "_") text → ((j : ℕ) → j < length text → get_or text j 0 ≡ 95 → ⊥) → ⊥
-begins-some text n begins none =
-    let whole : text ≡ (decimal n ++ codes "_") ++ begins.0 = begins.1 in
-    let inside = underscore-inside (decimal n) begins.0 in
-    none (length (decimal n)) (omega (arith, ap (λ (l : List ℕ). length l) whole)) (ap (λ (l : List ℕ). get_or l (length (decimal n)) 0) whole ∙ underscore-at (decimal n) begins.0)
-
 -- and digits before an underscore begin the text
 pub begins-from : (text digits : List ℕ) (n k : ℕ) → digits ≡ take k text → digits ≡ decimal n → k < length text → get_or text k 0 ≡ 95 → BeginsWith (decimal n ++ codes "_") text
 begins-from text digits n k front is inside at = (
@@ -60,14 +50,6 @@ begins-from text digits n k front is inside at = (
       ∙ ap (λ l. decimal n ++ l) (drop_more text k 0 inside ∙ ap (λ x. x ∷ drop (k + 1) text) at)
       ∙ sym (append_assoc (decimal n) (codes "_") (drop (k + 1) text)),
 )
-
--- ---- the letters in front
-
-five : (a b c d e : ℕ) (xs ys : List ℕ) → a ∷ b ∷ c ∷ d ∷ e ∷ xs ≡ a ∷ b ∷ c ∷ d ∷ e ∷ ys → xs ≡ ys
-five a b c d e xs ys h = ap (drop 5) h
-
-pub stem-rest : (n : ℕ) (rest : List ℕ) → BeginsWith (stem n) (codes "hold_" ++ rest) → BeginsWith (decimal n ++ codes "_") rest
-stem-rest n rest begins = (begins.0, ap (drop 5) begins.1)
 
 -- a number that the digits in front of an underscore are, if they are one
 pub before-some : (text digits : List ℕ) (found : Option ℕ) (k : ℕ) → digits ≡ take k text → k < length text → get_or text k 0 ≡ 95
