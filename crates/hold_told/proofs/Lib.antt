@@ -1,0 +1,11 @@
+pub mod EntryLemmas
+pub mod IndexLemmas
+pub mod ItemLemmas
+pub mod PinNameLemmas
+pub mod PlaceLemmas
+pub mod PortLemmas
+pub mod SaidLemmas
+pub mod SlotLemmas
+pub mod StepLemmas
+pub mod StrayLemmas
+pub mod TypePinLemmas
