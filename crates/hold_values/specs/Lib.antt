@@ -1,0 +1,4 @@
+pub mod Defaults
+pub mod Given
+pub mod Values
+pub mod inner
